@@ -1,0 +1,2 @@
+use borrow.Author.Needs.{needs}
+use Rattle.model.proofs.goal.rising.RisingTotals.new.Needs as need

@@ -1,0 +1,9 @@
+pub mod Refusals
+pub mod Answers
+pub mod Sets
+pub mod Parts
+pub mod Loads
+pub mod Order
+pub mod Goals
+pub mod Cases
+pub mod Claims

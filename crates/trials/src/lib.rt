@@ -1,0 +1,3 @@
+// Examples of the public calls, as tests.
+#[cfg(test)]
+mod model_trials;
