@@ -7,10 +7,9 @@ use Prim.Native.Nat.{ℕ, zero, suc, _+_, _-_, _<_, _≤_}
 use native.Mathlib.Omega.{arith}
 use lib.Dec.{eqb, ltb}
 use lib.ListN.{length, getD, drop}
-use Rattle.std.specs.declared.option.Option.the-variants.{Some, None}
 use Rattle.std.proofs.shelf.Lists.{drop-more, drop-all}
 use Rattle.std.proofs.shelf.Tests.{and-parts, and-from, and-left, or-cases, or-from, false≢true, cases-order, lt-ltb, le-ltb, ltb-true, eqb-true, eq-eqb, ne-eqb}
-use Rattle.model.specs.Goals.{isIn, lastOf, lastIn, rising}
+use Rattle.model.specs.Goals.{isIn, lastOf, rising}
 
 -- what is left of rising totals rises
 pub rising-rest : (t : ℕ) (ts : List ℕ) → rising (t ∷ ts) ≡ true → rising ts ≡ true
@@ -52,18 +51,11 @@ module _ (ts : List ℕ) (i : ℕ) (l : i < length ts) where
 pub none-left : (ts : List ℕ) (i b : ℕ) → length ts ≤ i → isIn (drop i ts) b ≡ false
 none-left ts i b h = ap (λ (xs : List ℕ). isIn xs b) (drop-all i ts h)
 
--- the last of them, by its place
-last-at : (ts : List ℕ) → 0 < length ts → getD ts (length ts - 1) 0 ≡ lastOf ts
-last-at [] h = absurd (omega arith)
-last-at (t ∷ []) h = refl
-last-at (t ∷ u ∷ ts) h =
-    let P : ℕ → ℕ = λ n. getD (t ∷ u ∷ ts) n 0 in
+-- the last of those after the first is the last of all
+last-rest : (t u : ℕ) (ts : List ℕ) → lastOf (t ∷ u ∷ ts) ≡ lastOf (u ∷ ts)
+last-rest t u ts =
     let e : length (t ∷ u ∷ ts) - 1 ≡ suc (length (u ∷ ts) - 1) = omega arith in
-    ap P e ∙ last-at (u ∷ ts) (omega arith)
-
-pub last-in : (ts : List ℕ) → 0 < length ts → Some (getD ts (length ts - 1) 0) ≡ lastIn ts
-last-in [] h = absurd (omega arith)
-last-in (t ∷ ts) h = ap Some (last-at (t ∷ ts) h)
+    ap (λ n. getD (t ∷ u ∷ ts) n 0) e
 
 -- none of them is above the last
 pub in-below-last : (ts : List ℕ) (b : ℕ) → rising ts ≡ true → isIn ts b ≡ true → b ≤ lastOf ts
@@ -72,9 +64,10 @@ in-below-last (t ∷ []) b h i = elim (or-cases (eqb t b) false i) [ inl e ↦ o
 in-below-last (t ∷ u ∷ ts) b h i =
     let two = and-parts (ltb t u) (rising (u ∷ ts)) h in
     let next : u ≤ lastOf (u ∷ ts) = in-below-last (u ∷ ts) u (two .1) (first-in u ts) in
+    let same = last-rest t u ts in
     elim (or-cases (eqb t b) (isIn (u ∷ ts) b) i) [
       | inl e ↦ omega (arith, eqb-true t b e, ltb-true t u (two .0))
-      | inr j ↦ in-below-last (u ∷ ts) b (two .1) j
+      | inr j ↦ omega (arith, in-below-last (u ∷ ts) b (two .1) j)
     ]
   where
     first-in : (u : ℕ) (us : List ℕ) → isIn (u ∷ us) u ≡ true

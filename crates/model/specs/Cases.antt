@@ -1,11 +1,13 @@
 -- A case: its kinds, numbered from 1.
 use mathlib.Core.List.{List, [], _∷_, _++_, map}
-use mathlib.Core.Bool.{_||_}
+use mathlib.Core.Bool.{_||_, cond}
 use Prim.Native.Nat.{ℕ, _+_}
 use lib.Dec.{eqb, leb, ltb}
 use lib.ListN.{length, take}
 use Rattle.model.specs.declared.case.Case.{Case}
-use Rattle.model.specs.Answers.{Answer, accepted, refuse}
+use Rattle.std.specs.declared.option.Option.{Option}
+use Rattle.std.specs.declared.option.Option.the-variants.{Some, None}
+use Rattle.model.specs.Answers.{Answer, accepted, refused}
 use Rattle.model.specs.Parts.{Kind, Part, part}
 
 -- the kinds of a case, in order
@@ -16,11 +18,15 @@ kindsIn c = take (c .many) (c .kinds)
 abbrev pub allowedParts : List Kind → List Part
 allowedParts kinds = map (λ k. part k (k .allowed)) kinds
 
--- Adding a kind to those that are there: refused 1 where there are 32, 2 where the size or the price is over its limit, 3 where the
--- set is empty; else it comes last, and the answer is its number.
+-- Why a kind may not be added to n others, the first reason being given: 1 where they are 32, 2 where the size or the price is over
+-- its limit, 3 where the set is empty.
+abbrev pub addRefused : ℕ → ℕ → ℕ → ℕ → Option ℕ
+addRefused n size price set = cond (leb 32 n) (Some 1) (cond (ltb 4095 size || ltb 1000 price) (Some 2) (cond (eqb set 0) (Some 3) None))
+
+-- Adding a kind: refused, it changes nothing; else it comes last, and the answer is its number.
+abbrev pub adding : Option ℕ → List Part → Part → List Part × Answer
+adding (Some number) ps p = (ps, refused number)
+adding None ps p = (ps ++ p ∷ [], accepted (length ps + 1))
+
 abbrev pub added : List Part → ℕ → ℕ → ℕ → List Part × Answer
-added ps size price set =
-    refuse ps (leb 32 (length ps)) 1
-    (refuse ps (ltb 4095 size || ltb 1000 price) 2
-    (refuse ps (eqb set 0) 3
-    (ps ++ record { size = size; price = price; standing = set } ∷ [], accepted (length ps + 1))))
+added ps size price set = adding (addRefused (length ps) size price set) ps (record { size = size; price = price; standing = set })

@@ -2,9 +2,9 @@
 use mathlib.Core.Path.{_≡_}
 use mathlib.Core.List.{List, [], _∷_}
 use mathlib.Core.Bool.{Bool, true, false, not, cond, _&&_, _||_}
-use Prim.Native.Nat.{ℕ, _%_, _≤_}
+use Prim.Native.Nat.{ℕ, _-_, _%_, _≤_}
 use lib.Dec.{eqb, leb, ltb}
-use lib.ListN.{length}
+use lib.ListN.{length, getD}
 use Rattle.std.specs.declared.option.Option.{Option}
 use Rattle.std.specs.declared.option.Option.the-variants.{Some, None}
 use Rattle.model.specs.Answers.{Outcome, accepted, refused}
@@ -29,14 +29,15 @@ isIn (t ∷ ts) b = eqb t b || isIn ts b
 
 -- the last total; 0 where there is none
 abbrev pub lastOf : List ℕ → ℕ
-lastOf [] = 0
-lastOf (t ∷ []) = t
-lastOf (t ∷ u ∷ ts) = lastOf (u ∷ ts)
+lastOf ts = getD ts (length ts - 1) 0
 
 -- the last total, if there is one
 abbrev pub lastIn : List ℕ → Option ℕ
-lastIn [] = None
-lastIn (t ∷ ts) = Some (lastOf (t ∷ ts))
+lastIn ts = cond (eqb (length ts) 0) None (Some (lastOf ts))
+
+-- there is a last total, and it is not over 4,095
+abbrev pub endsLow : List ℕ → Bool
+endsLow ts = not (eqb (length ts) 0) && leb (lastOf ts) 4095
 
 -- each total is below the next
 abbrev pub rising : List ℕ → Bool
@@ -61,9 +62,11 @@ abbrev pub bandMade : ℕ → ℕ → Outcome Target
 bandMade low high = cond (ltb high low || ltb 4095 high) (refused 4) (accepted (between low high))
 
 -- making a list: refused 4 where it is empty, over 16 long or not strictly rising, or its last total is over 4,095
+abbrev pub badList : List ℕ → Bool
+badList ts = eqb (length ts) 0 || (ltb 16 (length ts) || (not (rising ts) || ltb 4095 (lastOf ts)))
+
 abbrev pub listMade : List ℕ → Outcome Target
-listMade [] = refused 4
-listMade (t ∷ ts) = cond (ltb 16 (length (t ∷ ts)) || (not (rising (t ∷ ts)) || ltb 4095 (lastOf (t ∷ ts)))) (refused 4) (accepted (oneOf (t ∷ ts)))
+listMade ts = cond (badList ts) (refused 4) (accepted (oneOf ts))
 
 -- making a stride: refused 5 where m is 0 or over 4,096, or r is not below m
 abbrev pub strideMade : ℕ → ℕ → Target → Outcome Target

@@ -45,10 +45,10 @@ pub impl Goal for Band as BandGoal {
     ghost means = { λ s. between (s .low) (s .high) };
 
     fn top(&self) -> u64 {
-        self.high
+        Band::high(self)
     }
 
     fn admits(&self, total: u64) -> bool {
-        self.low <= total && total <= self.high
+        total >= self.low && total <= self.high
     }
 }

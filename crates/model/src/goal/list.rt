@@ -3,7 +3,7 @@ ghost use mathlib.Core.Path.{_≡_};
 ghost use Prim.Native.Nat.{_<_, _≤_};
 ghost use lib.ListN.{take};
 ghost use Rattle.model.specs.Answers.{outcomeAs};
-ghost use Rattle.model.specs.Goals.{lastOf, listMade, oneOf};
+ghost use Rattle.model.specs.Goals.{endsLow, lastOf, listMade, oneOf};
 use crate::goal::Goal;
 use crate::goal::rising::RisingTotals;
 use crate::limits::MOST_LISTED;
@@ -17,6 +17,16 @@ pub struct TotalList {
     ghost small: { lastOf (take (listed .many) (listed .totals)) ≤ 4095 },
 }
 
+// Whether there is a last total, and it is not over the limit.
+fn ends_low(listed: &RisingTotals<MOST_LISTED>) -> bool
+    ensures { λ r. ⌜ r ≡ endsLow (take (now (listed .entry) .many) (now (listed .entry) .totals)) ⌝ }
+{
+    match listed.last() {
+        Some(last) => last <= MOST_TOTAL,
+        None => false,
+    }
+}
+
 impl TotalList {
     // The goal that admits just the totals given.
     pub fn new(totals: &[u64]) -> Result<TotalList, Refusal>
@@ -25,10 +35,7 @@ impl TotalList {
         let Some(listed) = RisingTotals::new(totals) else {
             return Err(Refusal::BadTotals);
         };
-        let Some(last) = listed.last() else {
-            return Err(Refusal::BadTotals);
-        };
-        if last > MOST_TOTAL {
+        if !ends_low(&listed) {
             return Err(Refusal::BadTotals);
         }
         Ok(TotalList { listed })

@@ -1,8 +1,9 @@
 // Strictly rising totals, at most N of them.
 ghost use mathlib.Core.Path.{_≡_};
 ghost use mathlib.Core.Bool.{true};
-ghost use Prim.Native.Nat.{_≤_};
-ghost use lib.ListN.{length, take};
+ghost use Prim.Native.Nat.{_-_, _<_, _≤_};
+ghost use lib.Dec.{ltb};
+ghost use lib.ListN.{length, getD, take};
 ghost use Rattle.model.specs.Answers.{optionAs};
 ghost use Rattle.model.specs.Goals.{isIn, lastIn, rising, risingMade};
 
@@ -15,12 +16,21 @@ pub struct RisingTotals<const N: usize> {
     ghost rises: { rising (take many totals) ≡ true },
 }
 
+// Whether the total at `i` is above the one before it.
+fn rises_at(totals: &[u64], i: usize) -> bool
+    requires after { ⌜ 1 ≤ i ⌝ }
+    requires inside { ⌜ i < length (now totals) ⌝ }
+    ensures { λ r. ⌜ r ≡ ltb (getD (now (totals .entry)) (i - 1) 0) (getD (now (totals .entry)) i 0) ⌝ }
+{
+    totals[i - 1] < totals[i]
+}
+
 // Whether each total is below the next.
 fn rises(totals: &[u64]) -> bool
     ensures { λ r. ⌜ r ≡ rising (now (totals .entry)) ⌝ }
 {
     for i in 1..totals.len() {
-        if totals[i - 1] >= totals[i] {
+        if !rises_at(totals, i) {
             return false;
         }
     }

@@ -1,28 +1,23 @@
-use mathlib.Core.Logic.{_⊎_, inl, inr}
-use Prim.Native.Nat.{_<_}
-use native.Mathlib.Omega.{arith}
+use mathlib.Core.Path.{_≡_, sym, ap₂, _∙_}
+use lib.ListN.{take}
 use borrow.Author.Needs.{needs}
-use Rattle.model.proofs.Adding.{full, over, none, more}
+use Rattle.model.specs.Answers.{accepted}
+use Rattle.model.specs.Refusals.{numberOf}
+use Rattle.model.specs.Parts.{part}
+use Rattle.model.specs.Cases.{allowedParts}
+use Rattle.model.proofs.Adding.{refused-so, put-last}
 use Rattle.model.proofs.case.Case.add.Needs as need
 
-pub returns-then-self-ge-MOST-KINDS : need.returns-then-self-ge-MOST-KINDS
-returns-then-self-ge-MOST-KINDS c =
-    let e = full (c .args .self .now) (c .args .size) (c .args .price) (c .args .allowed) (omega arith) in search needs
-
-pub returns-then-size-gt-MOST-SIZE : need.returns-then-size-gt-MOST-SIZE
-returns-then-size-gt-MOST-SIZE c =
-    let way : (4095 < c .args .size) ⊎ (1000 < c .args .price) = elim (c .then-size-gt-MOST-SIZE .either) [ inl h ↦ inl h | inr h ↦ inr (h .1) ] in
-    let e = over (c .args .self .now) (c .args .size) (c .args .price) (c .args .allowed) (omega arith) way in search needs
-
-pub returns-then-allowed-eq0 : need.returns-then-allowed-eq0
-returns-then-allowed-eq0 c =
-    let e = none (c .args .self .now) (c .args .size) (c .args .price) (c .args .allowed) (omega arith) (omega arith) (omega arith) (c .if-allowed-eq0 .taken) in
+pub returns-in-Some : need.returns-in-Some
+returns-in-Some c =
+    let e = refused-so (c .args .self .now) (c .args .size) (c .args .price) (c .args .allowed) (numberOf (c .in-Some .refusal)) (sym (c .in-Some .ensures tt)) in
     search needs
 
-pub returns : need.returns
-returns c =
-    let e =
-    more (c .args .self .now) (c .args .size) (c .args .price) (c .args .allowed) (omega arith) (omega arith) (omega arith) (c .if-allowed-eq0 .left)
-    (c .new .result) (c .new .ensures .size) (c .new .ensures .price) (c .new .ensures .allowed)
-    in
-    search needs
+pub returns-in-None : need.returns-in-None
+returns-in-None c =
+    let old = c .args .self .now in
+    let k = c .new .result in
+    let made : part k (k .allowed) ≡ record { size = c .args .size; price = c .args .price; standing = c .args .allowed } = cc in
+    let kinds = ap₂ take (c .put .ensures .many) (c .put .ensures .kinds) in
+    ap₂ (λ ks n. (allowedParts ks, accepted n)) kinds (c .put .ensures .number)
+    ∙ put-last old (c .args .size) (c .args .price) (c .args .allowed) k (sym (c .in-None .ensures tt)) made

@@ -1,0 +1,13 @@
+pub mod Measures
+pub mod Models
+pub mod Tallies
+pub mod Problems
+pub mod Marks
+pub mod Recurrence
+pub mod Cells
+pub mod Used
+pub mod Strike
+pub mod Register
+pub mod Plan
+pub mod Life
+pub mod Claims
