@@ -256,7 +256,7 @@ module _ {V : Type 0} (m : Means V) (laws : Laws m) where
       joinOf-S m laws has (chainOf m ps) (λ c h. h) (kept-by t (choicesOf ps)) (all-kept-by t has (choicesOf ps) chains)
       ∙ S-kept m laws has t (chainOf m ps) (λ c h. h) (choicesOf ps) chains
 
-  has-tally : (t : List ℕ → Bool) (ps : List Part) → All Cheap ps → m .has (tallyBy m t ps)
+  pub has-tally : (t : List ℕ → Bool) (ps : List Part) → All Cheap ps → m .has (tallyBy m t ps)
   has-tally t ps a =
       let P : V → Type 0 = λ v. m .has v in
       subst P (sym (tally-S t ps a)) (has-S m laws (λ c. m .has (chainOf m ps c)) (λ c. cond (t c) (chainOf m ps c) (m .zero)) (λ c h. has-cond m laws (t c) (chainOf m ps c) h) (choicesOf ps) (has-chains ps a))

@@ -30,7 +30,7 @@ use Rattle.model.proofs.Listed.{choices-within, within-listed}
 use Rattle.meaning.proofs.Lists.{kept-in, some-in, in-some, same-test}
 use Rattle.meaning.proofs.Joins.{S, joinOf-S}
 use Rattle.meaning.proofs.Grid.{holds-at}
-use Rattle.meaning.proofs.Choosing.{has-chains}
+use Rattle.meaning.proofs.Choosing.{has-chains, has-tally}
 
 -- some fitting load of standing counts has the count d for the kind at i
 abbrev Uses : (ℕ → Bool) → List Part → ℕ → ℕ → Type 0
@@ -88,6 +88,17 @@ closed admitted ps a b y = mark-some (λ c. admitted (b + totalOf ps c)) ps a y
 
 pub close : (admitted : ℕ → Bool) (ps : List Part) → All Cheap ps → (b : ℕ) → Closes admitted ps b → tallyPast yesNo admitted ps b ≡ 1
 close admitted ps a b r = some-mark (λ c. admitted (b + totalOf ps c)) ps a (r .0) (r .1 .0) (r .1 .1)
+
+-- marks are bits
+pub forward-bit : (ps : List Part) → All Cheap ps → (w : ℕ) (cells : List ℕ) → Holds (tallies yesNo ps w) cells → (i b : ℕ) → i < length ps + 1 → b < w → getD cells (i * w + b) 0 ≤ 1
+forward-bit ps a w cells held i b h l =
+    let P : ℕ → Type 0 = λ v. v ≤ 1 in
+    subst P (sym (holds-at 0 (length ps + 1) w (λ i b. tallyAt yesNo (take i ps) b) cells held i b h l)) (has-tally yesNo yes-no-laws (λ c. eqb (totalOf (take i ps) c) b) (take i ps) (all-take Cheap i ps a))
+
+pub backward-bit : (admitted : ℕ → Bool) (ps : List Part) → All Cheap ps → (w : ℕ) (cells : List ℕ) → Holds (talliesBack yesNo admitted ps w) cells → (i b : ℕ) → i < length ps + 1 → b < w → getD cells (i * w + b) 0 ≤ 1
+backward-bit admitted ps a w cells held i b h l =
+    let P : ℕ → Type 0 = λ v. v ≤ 1 in
+    subst P (sym (holds-at 0 (length ps + 1) w (λ i b. tallyPast yesNo admitted (drop i ps) b) cells held i b h l)) (has-tally yesNo yes-no-laws (λ c. admitted (b + totalOf (drop i ps) c)) (drop i ps) (all-drop Cheap i ps a))
 
 -- a load, cut at the kind i
 stands-take : (i : ℕ) (ps : List Part) (c : List ℕ) → Stands ps c → Stands (take i ps) (take i c)
