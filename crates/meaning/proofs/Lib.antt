@@ -1,5 +1,6 @@
 pub mod Bits
 pub mod Choosing
+pub mod Filled
 pub mod Grid
 pub mod Held
 pub mod Joins

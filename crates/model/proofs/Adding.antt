@@ -21,6 +21,10 @@ many-parts c =
     let room : c .many ≤ length (c .kinds) = omega (arith, c .few, c .whole) in
     length-map (kindsIn c) (λ k. part k (k .allowed)) ∙ length-take-le (c .many) (c .kinds) room
 
+-- a case whose list of kinds is empty has none
+pub no-kinds : (c : Case) → kindsIn c ≡ [] → c .many ≡ 0
+no-kinds c e = let room : c .many ≤ length (c .kinds) = omega (arith, c .few, c .whole) in sym (length-take-le (c .many) (c .kinds) room) ∙ ap length e
+
 -- where there is no reason against one more, there are fewer than 32
 few : (n size price counts : ℕ) → addRefused n size price counts ≡ None → n < 32
 few n size price counts e = go (leb 32 n) refl e

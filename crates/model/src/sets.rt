@@ -1,6 +1,6 @@
 // Sets of counts as 64-bit numbers: bit d says whether count d is in the set.
 ghost use mathlib.Core.Path.{_≡_};
-ghost use Prim.Native.Nat.{_/_, _%_, _<_};
+ghost use Prim.Native.Nat.{_/_, _%_, _<_, _≤_};
 ghost use lib.Count.{ones};
 ghost use Rattle.model.specs.Sets.{has, held};
 use crate::limits::COUNTS;
@@ -47,7 +47,8 @@ fn above_low(set: u64) -> u64
 
 // How many counts the set holds, eight bits at a time.
 pub fn how_many(set: u64) -> u32
-    ensures { λ r. ⌜ r ≡ held set ⌝ }
+    ensures members { λ r. ⌜ r ≡ held set ⌝ }
+    ensures few { λ r. ⌜ r ≤ 64 ⌝ }
 {
     let mut rest = set;
     let mut sum: u32 = 0;

@@ -1,5 +1,5 @@
 // Tables of cells over lent slices: the passes that fill them, and what can be read off them.
-mod asking;
+pub mod asking;
 mod backward;
 mod forward;
 mod rows;

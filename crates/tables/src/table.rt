@@ -25,17 +25,13 @@ pub struct Table<'a, T> {
 }
 
 impl<'a, T: Copy> Table<'a, T> {
-    // A table over the slice, for totals from 0 to top.
-    pub fn new(cells: &'a mut [T], top: u64) -> Table<'a, T>
-        requires { ⌜ top ≤ 4095 ⌝ }
-        ensures width { λ r. ⌜ r .width ≡ top + 1 ⌝ }
+    // A table over the slice, in rows of `width` cells.
+    pub fn new(cells: &'a mut [T], width: usize) -> Table<'a, T>
+        ensures width { λ r. ⌜ r .width ≡ width ⌝ }
         ensures cells { λ r. ⌜ now (r .cells) ≡ now (cells .entry) ⌝ }
         ensures name { λ r. ⌜ name (r .cells) ≡ name (cells .entry) ⌝ }
     {
-        Table {
-            cells,
-            width: top as usize + 1,
-        }
+        Table { cells, width }
     }
 
     // Cell (i, b).

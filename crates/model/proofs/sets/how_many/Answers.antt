@@ -25,4 +25,5 @@ returns c =
     let none : c .loop-i .rest ≡ 0 = nothing-left (c .loop-i .rest) (c .loop-i .-i) (omega arith) (c .loop-i .inv .1) in
     let bits = held-ones (c .args .set) (omega (arith, c .fits .set)) in
     let left = ones-le 0 (c .loop-i .rest) (omega arith) in
-    omega (arith, bits, left, c .loop-i .inv .0)
+    let most = ones-le 64 (c .args .set) (omega (arith, c .fits .set)) in
+    record { members = omega (arith, bits, left, c .loop-i .inv .0); few = omega (arith, most, c .loop-i .inv .0) }

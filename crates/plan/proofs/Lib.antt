@@ -1,0 +1,4 @@
+pub mod Living
+pub mod Marked
+pub mod Settling
+pub mod Telling

@@ -1,0 +1,4 @@
+// A plan over lent tables.
+mod counts;
+mod marking;
+pub mod plan;
