@@ -9,6 +9,7 @@ pub mod Lists
 pub mod Lives
 pub mod Marking
 pub mod Nested
+pub mod Paths
 pub mod Rows
 pub mod Runs
 pub mod Same

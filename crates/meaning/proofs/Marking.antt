@@ -15,7 +15,7 @@ use Rattle.std.specs.shelf.Lists.{kept-by, All}
 use Rattle.std.proofs.shelf.Elements.{all-kept-by, all-take, all-drop, kept-by-passes}
 use Rattle.std.proofs.shelf.Tests.{eqb-true, eq-eqb, false≢true}
 use Rattle.meaning.specs.Cells.{Holds, tallies, talliesBack}
-use Rattle.meaning.specs.Marks.{Cheap, Closes, Marks-told, Meets, Reaches, Stands}
+use Rattle.meaning.specs.Marks.{Cheap, Closes, Meets, Reaches, Stands}
 use Rattle.meaning.specs.Measures.{Means}
 use Rattle.meaning.specs.Models.{yesNo}
 use Rattle.meaning.specs.Problems.{hasAt, isEmpty, uses}
@@ -101,14 +101,14 @@ backward-bit admitted ps a w cells held i b h l =
     subst P (sym (holds-at 0 (length ps + 1) w (λ i b. tallyPast yesNo admitted (drop i ps) b) cells held i b h l)) (has-tally yesNo yes-no-laws (λ c. admitted (b + totalOf (drop i ps) c)) (drop i ps) (all-drop Cheap i ps a))
 
 -- a load, cut at the kind i
-stands-take : (i : ℕ) (ps : List Part) (c : List ℕ) → Stands ps c → Stands (take i ps) (take i c)
+pub stands-take : (i : ℕ) (ps : List Part) (c : List ℕ) → Stands ps c → Stands (take i ps) (take i c)
 stands-take zero ps c h = tt
 stands-take (suc i) [] [] h = tt
 stands-take (suc i) [] (d ∷ c) h = absurd h
 stands-take (suc i) (p ∷ ps) [] h = absurd h
 stands-take (suc i) (p ∷ ps) (d ∷ c) h = (h .0, h .1, stands-take i ps c (h .2))
 
-stands-drop : (i : ℕ) (ps : List Part) (c : List ℕ) → Stands ps c → Stands (drop i ps) (drop i c)
+pub stands-drop : (i : ℕ) (ps : List Part) (c : List ℕ) → Stands ps c → Stands (drop i ps) (drop i c)
 stands-drop zero ps c h = h
 stands-drop (suc i) [] [] h = tt
 stands-drop (suc i) [] (d ∷ c) h = absurd h
@@ -162,13 +162,13 @@ meets-used admitted ps i d p l e low y b r k =
     let whole : totalOf ps (r .0 ++ d ∷ k′ .0) ≡ b + p .size * d + totalOf (drop (suc i) ps) (k′ .0) = omega arith in
     (r .0 ++ d ∷ k′ .0, (s .0, ap admitted whole ∙ k′ .1 .1, s .2))
 
-uses-load : (admitted : ℕ → Bool) (ps : List Part) (i d : ℕ) → uses (fits admitted ps) i d ≡ true → Uses admitted ps i d
+pub uses-load : (admitted : ℕ → Bool) (ps : List Part) (i d : ℕ) → uses (fits admitted ps) i d ≡ true → Uses admitted ps i d
 uses-load admitted ps i d y =
     let s = some-in (λ l. hasAt l i d) (fits admitted ps) y in
     let k = kept-in (λ c. admitted (totalOf ps c)) (s .0) (choicesOf ps) (s .1) in
     (s .0, (all-in (Stands ps) (choicesOf ps) (choices-within (setsOf ps)) (s .0) (k .0), k .1, eqb-true (getD (s .0) i 0) d (s .2)))
 
-load-uses : (admitted : ℕ → Bool) (ps : List Part) (i d : ℕ) → Uses admitted ps i d → uses (fits admitted ps) i d ≡ true
+pub load-uses : (admitted : ℕ → Bool) (ps : List Part) (i d : ℕ) → Uses admitted ps i d → uses (fits admitted ps) i d ≡ true
 load-uses admitted ps i d u =
     in-some (λ l. hasAt l i d) (u .0) (fits admitted ps)
     (in-kept (λ c. admitted (totalOf ps c)) (u .0) (choicesOf ps) (within-listed (setsOf ps) (u .0) (u .1 .0)) (u .1 .1)) (eq-eqb (getD (u .0) i 0) d (u .1 .2))
@@ -231,13 +231,6 @@ some-load admitted ps a v e =
     let f = first-one (fits admitted ps) n in
     let k = kept-in (λ c. admitted (totalOf ps c)) (f .0) (choicesOf ps) (f .1) in
     eq-eqb v 1 (e ∙ close admitted ps a 0 (f .0, (all-in (Stands ps) (choicesOf ps) (choices-within (setsOf ps)) (f .0) (k .0), ap admitted (zero-add (totalOf ps (f .0))) ∙ k .1))))
-
-pub marks-told : (ps : List Part) → All Cheap ps → Marks-told ps
-marks-told ps a =
-    record {
-      forward = λ b. ((λ y. reached ps a b (eqb-true (tallyAt yesNo ps b) 1 y)), (λ r. eq-eqb (tallyAt yesNo ps b) 1 (reach ps a b r)));
-      backward = λ admitted b. ((λ y. closed admitted ps a b (eqb-true (tallyPast yesNo admitted ps b) 1 y)), (λ r. eq-eqb (tallyPast yesNo admitted ps b) 1 (close admitted ps a b r)));
-    }
 
 -- a count that fitting loads use stands
 stands-each : (ks : List Kind) (ss : List ℕ) → length ss ≡ length ks → (c : List ℕ) → Stands (parts ks ss) c → (i : ℕ) → i < length ks → has (getD ss i 0) (getD c i 0) ≡ true

@@ -11,3 +11,4 @@ pub mod Register
 pub mod Plan
 pub mod Life
 pub mod Claims
+pub mod Paths

@@ -3,11 +3,7 @@ use mathlib.Core.Path.{_≡_}
 use mathlib.Core.List.{List, [], _∷_}
 use mathlib.Core.Bool.{Bool, true}
 use Prim.Native.Nat.{ℕ, _+_, _<_, _≤_}
-use Rattle.std.specs.Orderings.{Decides}
-use Rattle.std.specs.shelf.Lists.{All}
-use lib.Dec.{eqb}
 use lib.ListN.{getD}
-use Rattle.meaning.specs.Models.{yesNo}
 use Rattle.meaning.specs.Tallies.{tallyAt, tallyPast}
 use Rattle.model.specs.Loads.{totalOf, Within}
 use Rattle.model.specs.Parts.{Part, setsOf}
@@ -31,11 +27,3 @@ Meets ahead back from to width blocks b = (b + blocks < width) × (getD ahead (f
 -- prices as kinds have them
 abbrev pub Cheap : Part → Type 0
 Cheap p = p .price ≤ 1000
-
--- the yes-no tallies are the marks
-pub record Marks-told (ps : List Part) : Type 0 where
-  pub forward : (b : ℕ) → Decides (eqb (tallyAt yesNo ps b) 1) (Reaches ps b)
-  pub backward : (admitted : ℕ → Bool) (b : ℕ) → Decides (eqb (tallyPast yesNo admitted ps b) 1) (Closes admitted ps b)
-
-abbrev pub Marks-tell : Type 0
-Marks-tell = (ps : List Part) → All Cheap ps → Marks-told ps
