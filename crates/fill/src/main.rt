@@ -1,4 +1,10 @@
-// The planner's program. Today it builds one worked case through the library and prints its kinds and what its goals admit.
+// The planner's program. Today it settles one worked case and prints what stands and the three tallies.
+use measures::loads::Loads;
+use measures::loads::LoadsMeasure;
+use measures::prices::Highest;
+use measures::prices::HighestMeasure;
+use measures::prices::Lowest;
+use measures::prices::LowestMeasure;
 use model::case::Case;
 use model::goal::Goal;
 use model::goal::band::Band;
@@ -9,6 +15,7 @@ use model::kind::Kind;
 use model::refusal::Refusal;
 use model::sets::contains;
 use model::sets::how_many;
+use plan::plan::Plan;
 use std::io;
 
 // Four kinds, each with count 0 or 1.
@@ -21,18 +28,26 @@ fn worked_case() -> Result<Case, Refusal> {
     Ok(case)
 }
 
+// The counts of a set, each after a space, and the end of the line.
+fn print_counts(rt: &LibcRuntime, set: u64) -> io::Result<()> {
+    for count in 0..64u64 {
+        if contains(set, count) {
+            print!(rt, " {count}")?;
+        }
+    }
+    println!(rt, "")
+}
+
 // One line for a kind: its number, size and price, how many counts are allowed, and which.
 fn print_kind(rt: &LibcRuntime, number: usize, kind: &Kind) -> io::Result<()> {
     let size = kind.size();
     let price = kind.price();
     let many = how_many(kind.allowed());
-    print!(rt, "kind {number} size {size} price {price} counts {many}:")?;
-    for count in 0..64u64 {
-        if contains(kind.allowed(), count) {
-            print!(rt, " {count}")?;
-        }
-    }
-    println!(rt, "")
+    print!(
+        rt,
+        "case kind {number} size {size} price {price} counts {many}:"
+    )?;
+    print_counts(rt, kind.allowed())
 }
 
 // One line for a goal: its top, and the totals that it admits.
@@ -52,25 +67,82 @@ fn print_refusal(rt: &LibcRuntime, refusal: Refusal) -> io::Result<()> {
     println!(rt, "refused {number}")
 }
 
-fn print_goals(rt: &LibcRuntime, band: Band) -> io::Result<()> {
+// One line for each kind: the counts that stand.
+fn print_standing<G: Goal + Drop>(rt: &LibcRuntime, plan: &Plan<G>) -> io::Result<()> {
+    for kind in 1..33u64 {
+        match plan.standing(kind) {
+            Ok(set) => {
+                print!(rt, "kind {kind}")?;
+                print_counts(rt, set)?;
+            }
+            Err(_) => return Ok(()),
+        }
+    }
+    Ok(())
+}
+
+// A price, or none.
+fn print_price(rt: &LibcRuntime, name: &str, price: Option<u32>) -> io::Result<()> {
+    match price {
+        Some(value) => println!(rt, "{name} {value}"),
+        None => println!(rt, "{name} none"),
+    }
+}
+
+// The number of loads, the lowest price and the highest.
+fn print_tallies<G: Goal + Drop>(rt: &LibcRuntime, plan: &Plan<G>) -> io::Result<()> {
+    let mut numbers = [0u32; 4096];
+    match plan.tally::<Loads>(&mut numbers) {
+        Ok(many) => println!(rt, "loads {many}")?,
+        Err(refusal) => print_refusal(rt, refusal)?,
+    }
+    let mut prices: [Option<u32>; 4096] = [None; 4096];
+    match plan.tally::<Lowest>(&mut prices) {
+        Ok(price) => print_price(rt, "lowest", price)?,
+        Err(refusal) => print_refusal(rt, refusal)?,
+    }
+    match plan.tally::<Highest>(&mut prices) {
+        Ok(price) => print_price(rt, "highest", price),
+        Err(refusal) => print_refusal(rt, refusal),
+    }
+}
+
+// What stands of the case under the goal, and its tallies.
+fn print_plan<G: Goal + Drop>(rt: &LibcRuntime, case: &Case, goal: G) -> io::Result<()> {
+    let mut plan = Plan::blank(goal);
+    let mut forward = [0u8; 4096];
+    let mut backward = [0u8; 4096];
+    match plan.settle(case, &mut forward, &mut backward) {
+        Ok(many) => println!(rt, "settled {many}")?,
+        Err(refusal) => return print_refusal(rt, refusal),
+    }
+    print_standing(rt, &plan)?;
+    print_tallies(rt, &plan)
+}
+
+// The plan of the case under the band, and under every second total of it.
+fn print_plans(rt: &LibcRuntime, case: &Case, band: Band) -> io::Result<()> {
     print_goal(rt, "band 10 12", &band)?;
+    print_plan(rt, case, band)?;
     match Stride::over(band, 2, 0) {
-        Ok(stride) => print_goal(rt, "stride 2 0 over band 10 12", &stride),
+        Ok(stride) => {
+            print_goal(rt, "stride 2 0 over band 10 12", &stride)?;
+            print_plan(rt, case, stride)
+        }
         Err(refused) => print_refusal(rt, refused.refusal()),
     }
 }
 
 fn main(rt: LibcRuntime) -> io::Result<()> {
-    match worked_case() {
-        Ok(case) => {
-            for (place, kind) in case.kinds().iter().enumerate() {
-                print_kind(&rt, place.saturating_add(1), kind)?;
-            }
-        }
-        Err(refusal) => print_refusal(&rt, refusal)?,
+    let case = match worked_case() {
+        Ok(case) => case,
+        Err(refusal) => return print_refusal(&rt, refusal),
+    };
+    for (place, kind) in case.kinds().iter().enumerate() {
+        print_kind(&rt, place.saturating_add(1), kind)?;
     }
     match Band::new(10, 12) {
-        Ok(band) => print_goals(&rt, band),
+        Ok(band) => print_plans(&rt, &case, band),
         Err(refusal) => print_refusal(&rt, refusal),
     }
 }

@@ -1,5 +1,7 @@
 // The lowest and the highest price of a load: none where there is no load, else a price, cut off at 4,294,967,295.
 ghost use mathlib.Core.Path.{_≡_};
+ghost use Prim.Native.Nat.{_*_};
+ghost use Rattle.std.specs.declared.option.Option.the-variants.{Some};
 ghost use Rattle.meaning.specs.Models.{lowest, highest, added};
 use crate::Measure;
 
@@ -11,6 +13,13 @@ fn sum_of_prices(a: Option<u32>, b: Option<u32>) -> Option<u32>
         (Some(x), Some(y)) => Some(x.saturating_add(y)),
         _ => None,
     }
+}
+
+// The price of so many projects.
+fn price_of(price: u16, count: u8) -> Option<u32>
+    ensures { λ r. ⌜ r ≡ Some (price * count) ⌝ }
+{
+    Some(price as u32 * count as u32)
 }
 
 pub struct Lowest;
@@ -41,7 +50,7 @@ pub impl Measure for Lowest as LowestMeasure {
     }
 
     fn worth(price: u16, count: u8) -> Option<u32> {
-        Some(price as u32 * count as u32)
+        price_of(price, count)
     }
 }
 
@@ -73,6 +82,6 @@ pub impl Measure for Highest as HighestMeasure {
     }
 
     fn worth(price: u16, count: u8) -> Option<u32> {
-        Some(price as u32 * count as u32)
+        price_of(price, count)
     }
 }

@@ -1,3 +1,8 @@
 // Examples of the public calls, as tests.
 #[cfg(test)]
+mod cases;
+pub mod matrices;
+#[cfg(test)]
 mod model_trials;
+#[cfg(test)]
+mod plan_trials;

@@ -1,4 +1,5 @@
 // Kinds, cases, sets of counts and goals.
+use crate::cases::refusal_of;
 use model::case::Case;
 use model::goal::Goal;
 use model::goal::band::Band;
@@ -12,14 +13,6 @@ use model::refusal::Refusal;
 use model::sets::contains;
 use model::sets::how_many;
 use std::test::*;
-
-// The number of a refusal; 0 where the call was accepted.
-fn refusal_of<T: Drop>(r: Result<T, Refusal>) -> u8 {
-    match r {
-        Ok(_) => 0,
-        Err(e) => e.number(),
-    }
-}
 
 #[test]
 fn a_case_takes_32_kinds() -> Result<(), Fail> {
