@@ -10,6 +10,7 @@ pub mod Lives
 pub mod Marking
 pub mod Nested
 pub mod Paths
+pub mod Rising
 pub mod Rows
 pub mod Runs
 pub mod Same

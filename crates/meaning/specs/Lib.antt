@@ -12,3 +12,4 @@ pub mod Plan
 pub mod Life
 pub mod Claims
 pub mod Paths
+pub mod Finding

@@ -1,5 +1,6 @@
 // The meaning of plans: definitions in specs/, theorems proved for them.
 ghost use Rattle.meaning.specs.Claims.{Standing-loads, Call-shows, History-stands, Sets-sound};
+ghost use Rattle.meaning.specs.Finding.{Runs-right};
 ghost use Rattle.meaning.specs.Paths.{Marks-and-loads};
 ghost use Rattle.meaning.specs.Strike.{Strike-tells};
 
@@ -32,4 +33,9 @@ pub fn marks_and_loads()
 // The fitting loads without a count are the fitting loads of the sets with that count struck.
 pub fn strike_tells()
     ensures { λ _. ⌜ Strike-tells ⌝ }
+{}
+
+// Starting with the first load and going on with the next from each answer gives every fitting load, each once and in order, and then none.
+pub fn runs_right()
+    ensures { λ _. ⌜ Runs-right ⌝ }
 {}
