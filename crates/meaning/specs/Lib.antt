@@ -13,3 +13,4 @@ pub mod Life
 pub mod Claims
 pub mod Paths
 pub mod Finding
+pub mod Seeking

@@ -1,4 +1,5 @@
 pub mod Living
 pub mod Marked
+pub mod Seeking
 pub mod Settling
 pub mod Telling

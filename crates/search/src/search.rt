@@ -13,7 +13,8 @@ ghost use Rattle.meaning.specs.Marks.{Closes};
 ghost use Rattle.model.specs.Loads.{Fits, fits};
 ghost use Rattle.model.specs.Order.{before};
 ghost use Rattle.model.specs.Sets.{has};
-ghost use Rattle.search.specs.Search.{Leads, Least};
+ghost use Rattle.search.specs.Search.{Held, Leads, Least};
+ghost use Rattle.model.specs.Parts.{parts};
 ghost use Rattle.search.specs.Seen.{HighestIn, NoneIn, Right, closesIn, kindsIn, partIn, partsIn};
 use crate::marks::Marks;
 use model::goal::Goal;
@@ -43,6 +44,25 @@ fn is_marked(cells: &[u8], place: usize) -> bool
 }
 
 impl<'a> Marks<'a> {
+    // The marks in `cells`, in rows of `width` cells, of kinds with their standing sets.
+    fn new(cells: &'a [u8], width: usize, kinds: &'a [Kind], sets: &'a [u64]) -> Marks<'a>
+        requires few { ⌜ length (now kinds) ≤ 32 ⌝ }
+        requires long { ⌜ length (now sets) ≡ length (now kinds) ⌝ }
+        requires wide { ⌜ width ≤ 4096 ⌝ }
+        requires room { ⌜ (length (now kinds) + 1) * width ≤ length (now cells) ⌝ }
+        ensures cells { λ r. ⌜ now (r .cells) ≡ now (cells .entry) ⌝ }
+        ensures width { λ r. ⌜ r .width ≡ width ⌝ }
+        ensures kinds { λ r. ⌜ now (r .kinds) ≡ now (kinds .entry) ⌝ }
+        ensures sets { λ r. ⌜ now (r .sets) ≡ now (sets .entry) ⌝ }
+    {
+        Marks {
+            cells,
+            width,
+            kinds,
+            sets,
+        }
+    }
+
     fn blocks(&self, i: usize, count: u8) -> usize
         requires { ⌜ i < kindsIn (now self) ⌝ }
         ensures value { λ r. ⌜ r ≡ partIn (now (self .entry)) i .size * count ⌝ }
@@ -156,7 +176,7 @@ impl<'a> Marks<'a> {
     }
 
     // Writes the first fitting load of standing counts, or says that there is none.
-    pub fn first_load<G: Goal>(&self, goal: &G, load: &mut [u8]) -> bool
+    fn first_load<G: Goal>(&self, goal: &G, load: &mut [u8]) -> bool
         requires right { ⌜ Right (G·Goal .means (now goal) .admits) (now self) ⌝ }
         requires long { ⌜ length (now load) ≡ kindsIn (now self) ⌝ }
         ensures first { λ r. ⌜ Gives (firstLoad (G·Goal .means (now (goal .entry)) .admits) (partsIn (now (self .entry)))) (now (load .entry)) r (now (load .exit)) ⌝ }
@@ -172,7 +192,7 @@ impl<'a> Marks<'a> {
     }
 
     // Writes the first fitting load of standing counts that comes after the bytes in the slice, or says that there is none.
-    pub fn next_load<G: Goal>(&self, goal: &G, load: &mut [u8]) -> bool
+    fn next_load<G: Goal>(&self, goal: &G, load: &mut [u8]) -> bool
         requires right { ⌜ Right (G·Goal .means (now goal) .admits) (now self) ⌝ }
         requires long { ⌜ length (now load) ≡ kindsIn (now self) ⌝ }
         ensures next { λ r. ⌜ Gives (nextLoad (G·Goal .means (now (goal .entry)) .admits) (partsIn (now (self .entry))) (now (load .entry))) (now (load .entry)) r (now (load .exit)) ⌝ }
@@ -189,4 +209,42 @@ impl<'a> Marks<'a> {
             }
         }
     }
+}
+
+// Writes the first fitting load of the kinds with their standing sets, whose backward marks the cells hold, or says that there is none.
+pub fn first_load<'a, G: Goal>(
+    goal: &G,
+    cells: &'a [u8],
+    width: usize,
+    kinds: &'a [Kind],
+    sets: &'a [u64],
+    load: &mut [u8],
+) -> bool
+    requires held { ⌜ Held (G·Goal .means (now goal) .admits) (now kinds) (now sets) width (now cells) ⌝ }
+    requires long { ⌜ length (now load) ≡ length (now kinds) ⌝ }
+    ensures first { λ r. ⌜ Gives (firstLoad (G·Goal .means (now (goal .entry)) .admits) (parts (now (kinds .entry)) (now (sets .entry)))) (now (load .entry)) r (now (load .exit)) ⌝ }
+    ensures found { λ r. ⌜ (r ≡ true → IsFirst (G·Goal .means (now (goal .entry)) .admits) (parts (now (kinds .entry)) (now (sets .entry))) (now (load .exit))) ⌝ }
+    ensures none { λ r. ⌜ (r ≡ false → (other : List ℕ) → Fits (G·Goal .means (now (goal .entry)) .admits) (parts (now (kinds .entry)) (now (sets .entry))) other → ⊥) ⌝ }
+{
+    let marks = Marks::new(cells, width, kinds, sets);
+    marks.first_load::<G>(goal, load)
+}
+
+// Writes the first fitting load that comes after the bytes in the slice, or says that there is none.
+pub fn next_load<'a, G: Goal>(
+    goal: &G,
+    cells: &'a [u8],
+    width: usize,
+    kinds: &'a [Kind],
+    sets: &'a [u64],
+    load: &mut [u8],
+) -> bool
+    requires held { ⌜ Held (G·Goal .means (now goal) .admits) (now kinds) (now sets) width (now cells) ⌝ }
+    requires long { ⌜ length (now load) ≡ length (now kinds) ⌝ }
+    ensures next { λ r. ⌜ Gives (nextLoad (G·Goal .means (now (goal .entry)) .admits) (parts (now (kinds .entry)) (now (sets .entry))) (now (load .entry))) (now (load .entry)) r (now (load .exit)) ⌝ }
+    ensures found { λ r. ⌜ (r ≡ true → IsNext (G·Goal .means (now (goal .entry)) .admits) (parts (now (kinds .entry)) (now (sets .entry))) (now (load .entry)) (now (load .exit))) ⌝ }
+    ensures none { λ r. ⌜ (r ≡ false → (other : List ℕ) → Fits (G·Goal .means (now (goal .entry)) .admits) (parts (now (kinds .entry)) (now (sets .entry))) other → before (now (load .entry)) other ≡ true → ⊥) ⌝ }
+{
+    let marks = Marks::new(cells, width, kinds, sets);
+    marks.next_load::<G>(goal, load)
 }
