@@ -2,7 +2,7 @@
 use mathlib.Core.Path.{_≡_}
 use mathlib.Core.List.{List}
 use mathlib.Core.Bool.{Bool, true, cond}
-use Prim.Native.Nat.{ℕ}
+use Prim.Native.Nat.{ℕ, suc}
 use lib.Dec.{eqb}
 use lib.ListN.{length}
 use Rattle.std.specs.declared.option.Option.{Option}
@@ -11,9 +11,9 @@ use Rattle.std.specs.shelf.Lists.{kept-by}
 use Rattle.model.specs.Answers.{Outcome, accepted, refused}
 use Rattle.model.specs.Loads.{Fits}
 use Rattle.model.specs.Order.{before}
-use Rattle.model.specs.Parts.{parts}
+use Rattle.model.specs.Parts.{Part, parts}
 use Rattle.meaning.specs.Cells.{over}
-use Rattle.meaning.specs.Finding.{IsFirst, IsNext, headOf}
+use Rattle.meaning.specs.Finding.{IsFirst, IsNext, Run-right, callOf, headOf}
 use Rattle.meaning.specs.Life.{Life, blank, lives}
 use Rattle.meaning.specs.Plan.{Shows}
 use Rattle.meaning.specs.Problems.{Problem, fitting, kindsOf, short}
@@ -58,6 +58,23 @@ ByRegister (blank g) after a = Unit {0}
 ByRegister (lives c s) after (accepted load) = (r : Register) → Shows c s r → sought after (loadsOf c (r .ruled)) ≡ Some load
 ByRegister (lives c s) after (refused k) = k ≡ 15 → (r : Register) → Shows c s r → sought after (loadsOf c (r .ruled)) ≡ None
 
+-- The call's place in a run of first load and then next load from each answer: first load answers as call 0 of the run, and next load from
+-- what call k gave answers as the call after it.
+abbrev pub Place : (ℕ → Bool) → List Part → Option (List ℕ) → Option (List ℕ) → Type 0
+Place admits ps None o = o ≡ callOf admits ps 0
+Place admits ps (Some given) o = (k : ℕ) → callOf admits ps k ≡ Some given → o ≡ callOf admits ps (suc k)
+
+-- The answer has its place in the run, and the run gives every fitting load of standing counts, each once and in order, and then none.
+pub record OnRun (admits : ℕ → Bool) (ps : List Part) (after o : Option (List ℕ)) : Type 0 where
+  pub place : Place admits ps after o
+  pub whole : Run-right admits ps
+
+-- By the run of calls: a load, or refusal 15 where the run has ended.
+abbrev pub ByRun : Life → Option (List ℕ) → Outcome (List ℕ) → Type 0
+ByRun (blank g) after a = Unit {0}
+ByRun (lives c s) after (accepted load) = OnRun (c .goal .admits) (parts (c .kinds) (s .standing)) after (Some load)
+ByRun (lives c s) after (refused k) = k ≡ 15 → OnRun (c .goal .admits) (parts (c .kinds) (s .standing)) after None
+
 -- on a refusal the slice for the load is as it was
 abbrev pub loadIn : Outcome (List ℕ) → List ℕ → List ℕ
 loadIn (accepted load) before = load
@@ -74,3 +91,4 @@ pub record Found (l : Life) (after : Option (List ℕ)) (forward backward : ℕ)
   pub slice : exit ≡ loadIn a entry
   pub words : InWords l after a
   pub loads : ByRegister l after a
+  pub run : ByRun l after a

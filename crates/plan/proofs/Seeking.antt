@@ -13,16 +13,18 @@ use Rattle.std.proofs.shelf.Tests.{cond-true, cond-false, eq-eqb, ltb-false, or
 use Rattle.model.specs.declared.kind.Kind.{Kind}
 use Rattle.model.specs.Answers.{Outcome, accepted, refused}
 use Rattle.model.specs.Goals.{Bounded, Target}
-use Rattle.model.specs.Parts.{parts}
+use Rattle.model.specs.Loads.{fits}
+use Rattle.model.specs.Parts.{Part, parts}
 use Rattle.meaning.specs.Cells.{over, talliesBack}
-use Rattle.meaning.specs.Finding.{Gives, orKept}
+use Rattle.meaning.specs.Finding.{Gives, callOf, onwards, orKept}
 use Rattle.meaning.specs.Life.{Life, lives}
 use Rattle.meaning.specs.Models.{yesNo}
 use Rattle.meaning.specs.Plan.{Shows}
 use Rattle.meaning.specs.Problems.{Problem, fitting, kindsOf, needed, short}
 use Rattle.meaning.specs.Register.{Register, loadsOf}
-use Rattle.meaning.specs.Seeking.{Comes, Found, NoneComes, finds, foundOr, sought}
+use Rattle.meaning.specs.Seeking.{Comes, Found, NoneComes, OnRun, Place, finds, foundOr, sought}
 use Rattle.meaning.proofs.Grid.{over-holds}
+use Rattle.meaning.proofs.Rising.{run-right}
 use Rattle.meaning.proofs.Steps.{standing-loads}
 use Rattle.search.specs.Search.{Held}
 use Rattle.plan.specs.View.{lifeOf, problemOf, stateOf}
@@ -55,6 +57,13 @@ held-now t bounded ks ss w cells before few long is low room made =
       marks = rw made (over-holds (talliesBack yesNo (t .admits) (parts ks ss) (t .top + 1)) before);
     })
 
+placed : (adm : ℕ → Bool) (ps : List Part) (after o : Option (List ℕ)) → sought after (fits adm ps) ≡ o → Place adm ps after o
+placed adm ps None o is = sym is
+placed adm ps (Some given) o is = λ k e. sym is ∙ sym (ap (onwards adm ps) e)
+
+on-run : (adm : ℕ → Bool) (ps : List Part) (after o : Option (List ℕ)) → sought after (fits adm ps) ≡ o → OnRun adm ps after o
+on-run adm ps after o is = record { place = placed adm ps after o is; whole = run-right adm ps }
+
 module _ (t : Target) (kinds : List Kind) (standing : List ℕ) (noted : List (List ℕ)) (k : ℕ) (after : Option (List ℕ)) (f b : ℕ) where
   reaches : (n : ℕ) (entry : List ℕ) → length (take n kinds) ≡ n → short (problemOf t n kinds) f b ≡ false → length entry ≡ n
       → finds (lives (problemOf t n kinds) (stateOf n standing noted k)) after (length entry) f b ≡ foundOr (sought after (fitting (problemOf t n kinds) (take n standing)))
@@ -73,6 +82,7 @@ module _ (t : Target) (kinds : List Kind) (standing : List ℕ) (noted : List (L
         slice = refl;
         words = comes;
         loads = λ r sh. ap (sought after) (sym (standing-loads c (take (suc n) standing) (r .ruled) (sh .now-stand))) ∙ is;
+        run = on-run (t .admits) (parts (c .kinds) (take (suc n) standing)) after (Some exit) is;
       }
 
   pub none-live : (n : ℕ) (entry exit : List ℕ) → 0 < n → length (take n kinds) ≡ n → short (problemOf t n kinds) f b ≡ false → length entry ≡ n → exit ≡ entry
@@ -86,4 +96,5 @@ module _ (t : Target) (kinds : List Kind) (standing : List ℕ) (noted : List (L
         slice = same;
         words = λ z. none;
         loads = λ z r sh. ap (sought after) (sym (standing-loads c (take (suc n) standing) (r .ruled) (sh .now-stand))) ∙ is;
+        run = λ z. on-run (t .admits) (parts (c .kinds) (take (suc n) standing)) after None is;
       }
