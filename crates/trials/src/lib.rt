@@ -1,6 +1,8 @@
 // Examples of the public calls, as tests.
 #[cfg(test)]
 mod cases;
+#[cfg(test)]
+mod load_trials;
 pub mod matrices;
 #[cfg(test)]
 mod model_trials;

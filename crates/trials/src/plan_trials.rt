@@ -35,7 +35,7 @@ fn four_kinds_stand() -> Result<(), Fail> {
     check_eq(plan.standing(3)?, 0b11)?;
     check_eq(plan.standing(4)?, 0b10)?;
     // past the 65 needed cells nothing is touched
-    check(forward[64] == 1 || forward[64] == 0)?;
+    check(forward[64] == 1 && backward[64] == 1)?;
     check(forward[65] == 7 && backward[65] == 9 && forward[69] == 7)
 }
 
