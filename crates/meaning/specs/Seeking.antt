@@ -1,7 +1,7 @@
 -- What first load and next load answer, and what the lent slices then hold.
 use mathlib.Core.Path.{_≡_}
 use mathlib.Core.List.{List}
-use mathlib.Core.Bool.{Bool, true, cond}
+use mathlib.Core.Bool.{Bool, true, false, cond}
 use Prim.Native.Nat.{ℕ, suc}
 use lib.Dec.{eqb}
 use lib.ListN.{length}
@@ -18,6 +18,11 @@ use Rattle.meaning.specs.Life.{Life, blank, lives}
 use Rattle.meaning.specs.Plan.{Shows}
 use Rattle.meaning.specs.Problems.{Problem, fitting, kindsOf, short}
 use Rattle.meaning.specs.Register.{Register, loadsOf}
+
+-- where a search starts: before all loads, or after the given bytes
+abbrev pub startOf : Bool → List ℕ → Option (List ℕ)
+startOf false bytes = None
+startOf true bytes = Some bytes
 
 -- of a list of loads, the first; or the first that comes after given bytes
 abbrev pub sought : Option (List ℕ) → List (List ℕ) → Option (List ℕ)
@@ -37,20 +42,20 @@ finds (lives c s) after bytes forward backward =
     cond (short c forward backward) (refused 7) (cond (eqb bytes (kindsOf c)) (foundOr (sought after (fitting c (s .standing)))) (refused 14))
 
 -- no load that fits is first, or comes after the given bytes
-abbrev pub NoneComes : Problem → List ℕ → Option (List ℕ) → Type 0
-NoneComes c sets None = (other : List ℕ) → Fits (c .goal .admits) (parts (c .kinds) sets) other → ⊥
-NoneComes c sets (Some given) = (other : List ℕ) → Fits (c .goal .admits) (parts (c .kinds) sets) other → before given other ≡ true → ⊥
+abbrev pub NoneComes : (ℕ → Bool) → List Part → Option (List ℕ) → Type 0
+NoneComes admits ps None = (other : List ℕ) → Fits admits ps other → ⊥
+NoneComes admits ps (Some given) = (other : List ℕ) → Fits admits ps other → before given other ≡ true → ⊥
 
 -- the load is the first that fits, or the first after the given bytes
-abbrev pub Comes : Problem → List ℕ → Option (List ℕ) → List ℕ → Type 0
-Comes c sets None load = IsFirst (c .goal .admits) (parts (c .kinds) sets) load
-Comes c sets (Some given) load = IsNext (c .goal .admits) (parts (c .kinds) sets) given load
+abbrev pub Comes : (ℕ → Bool) → List Part → Option (List ℕ) → List ℕ → Type 0
+Comes admits ps None load = IsFirst admits ps load
+Comes admits ps (Some given) load = IsNext admits ps given load
 
 -- In the subject's own words: an accepted call wrote the load that comes, and refusal 15 says that none does.
 abbrev pub InWords : Life → Option (List ℕ) → Outcome (List ℕ) → Type 0
 InWords (blank g) after a = Unit {0}
-InWords (lives c s) after (accepted load) = Comes c (s .standing) after load
-InWords (lives c s) after (refused k) = k ≡ 15 → NoneComes c (s .standing) after
+InWords (lives c s) after (accepted load) = Comes (c .goal .admits) (parts (c .kinds) (s .standing)) after load
+InWords (lives c s) after (refused k) = k ≡ 15 → NoneComes (c .goal .admits) (parts (c .kinds) (s .standing)) after
 
 -- By the loads of any register that the plan shows.
 abbrev pub ByRegister : Life → Option (List ℕ) → Outcome (List ℕ) → Type 0

@@ -72,7 +72,7 @@ module _ (t : Target) (kinds : List Kind) (standing : List ℕ) (noted : List (L
       cond-false (short c f b) _ _ s ∙ cond-true (eqb (length entry) (kindsOf c)) _ _ (eq-eqb (length entry) (kindsOf c) (e ∙ sym long))
 
   pub found-live : (n : ℕ) (entry exit : List ℕ) → 0 < n → length (take n kinds) ≡ n → short (problemOf t n kinds) f b ≡ false → length entry ≡ n
-      → sought after (fitting (problemOf t n kinds) (take n standing)) ≡ Some exit → Comes (problemOf t n kinds) (take n standing) after exit
+      → sought after (fitting (problemOf t n kinds) (take n standing)) ≡ Some exit → Comes (t .admits) (parts (take n kinds) (take n standing)) after exit
       → Found (lifeOf t n kinds standing noted k) after f b entry exit (accepted exit)
   found-live zero entry exit some long s e is comes = absurd (omega arith)
   found-live (suc n) entry exit some long s e is comes =
@@ -86,7 +86,7 @@ module _ (t : Target) (kinds : List Kind) (standing : List ℕ) (noted : List (L
       }
 
   pub none-live : (n : ℕ) (entry exit : List ℕ) → 0 < n → length (take n kinds) ≡ n → short (problemOf t n kinds) f b ≡ false → length entry ≡ n → exit ≡ entry
-      → sought after (fitting (problemOf t n kinds) (take n standing)) ≡ None → NoneComes (problemOf t n kinds) (take n standing) after
+      → sought after (fitting (problemOf t n kinds) (take n standing)) ≡ None → NoneComes (t .admits) (parts (take n kinds) (take n standing)) after
       → Found (lifeOf t n kinds standing noted k) after f b entry exit (refused 15)
   none-live zero entry exit some long s e same is none = absurd (omega arith)
   none-live (suc n) entry exit some long s e same is none =

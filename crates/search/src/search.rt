@@ -10,6 +10,7 @@ ghost use Rattle.std.specs.declared.option.Option.the-variants.{Some};
 ghost use Rattle.std.specs.shelf.Maps.{nth};
 ghost use Rattle.meaning.specs.Finding.{Gives, IsFirst, IsNext, firstLoad, nextLoad};
 ghost use Rattle.meaning.specs.Marks.{Closes};
+ghost use Rattle.meaning.specs.Seeking.{Comes, NoneComes, sought, startOf};
 ghost use Rattle.model.specs.Loads.{Fits, fits};
 ghost use Rattle.model.specs.Order.{before};
 ghost use Rattle.model.specs.Sets.{has};
@@ -211,40 +212,27 @@ impl<'a> Marks<'a> {
     }
 }
 
-// Writes the first fitting load of the kinds with their standing sets, whose backward marks the cells hold, or says that there is none.
-pub fn first_load<'a, G: Goal>(
+// Writes the first fitting load of the kinds with their standing sets, whose backward marks the cells hold; or the first that comes after
+// the bytes in the slice. Or it says that there is none.
+pub fn find_load<'a, G: Goal>(
     goal: &G,
     cells: &'a [u8],
     width: usize,
     kinds: &'a [Kind],
     sets: &'a [u64],
+    onwards: bool,
     load: &mut [u8],
 ) -> bool
     requires held { ⌜ Held (G·Goal .means (now goal) .admits) (now kinds) (now sets) width (now cells) ⌝ }
     requires long { ⌜ length (now load) ≡ length (now kinds) ⌝ }
-    ensures first { λ r. ⌜ Gives (firstLoad (G·Goal .means (now (goal .entry)) .admits) (parts (now (kinds .entry)) (now (sets .entry)))) (now (load .entry)) r (now (load .exit)) ⌝ }
-    ensures found { λ r. ⌜ (r ≡ true → IsFirst (G·Goal .means (now (goal .entry)) .admits) (parts (now (kinds .entry)) (now (sets .entry))) (now (load .exit))) ⌝ }
-    ensures none { λ r. ⌜ (r ≡ false → (other : List ℕ) → Fits (G·Goal .means (now (goal .entry)) .admits) (parts (now (kinds .entry)) (now (sets .entry))) other → ⊥) ⌝ }
+    ensures gives { λ r. ⌜ Gives (sought (startOf onwards (now (load .entry))) (fits (G·Goal .means (now (goal .entry)) .admits) (parts (now (kinds .entry)) (now (sets .entry))))) (now (load .entry)) r (now (load .exit)) ⌝ }
+    ensures found { λ r. ⌜ (r ≡ true → Comes (G·Goal .means (now (goal .entry)) .admits) (parts (now (kinds .entry)) (now (sets .entry))) (startOf onwards (now (load .entry))) (now (load .exit))) ⌝ }
+    ensures none { λ r. ⌜ (r ≡ false → NoneComes (G·Goal .means (now (goal .entry)) .admits) (parts (now (kinds .entry)) (now (sets .entry))) (startOf onwards (now (load .entry)))) ⌝ }
 {
     let marks = Marks::new(cells, width, kinds, sets);
-    marks.first_load::<G>(goal, load)
-}
-
-// Writes the first fitting load that comes after the bytes in the slice, or says that there is none.
-pub fn next_load<'a, G: Goal>(
-    goal: &G,
-    cells: &'a [u8],
-    width: usize,
-    kinds: &'a [Kind],
-    sets: &'a [u64],
-    load: &mut [u8],
-) -> bool
-    requires held { ⌜ Held (G·Goal .means (now goal) .admits) (now kinds) (now sets) width (now cells) ⌝ }
-    requires long { ⌜ length (now load) ≡ length (now kinds) ⌝ }
-    ensures next { λ r. ⌜ Gives (nextLoad (G·Goal .means (now (goal .entry)) .admits) (parts (now (kinds .entry)) (now (sets .entry))) (now (load .entry))) (now (load .entry)) r (now (load .exit)) ⌝ }
-    ensures found { λ r. ⌜ (r ≡ true → IsNext (G·Goal .means (now (goal .entry)) .admits) (parts (now (kinds .entry)) (now (sets .entry))) (now (load .entry)) (now (load .exit))) ⌝ }
-    ensures none { λ r. ⌜ (r ≡ false → (other : List ℕ) → Fits (G·Goal .means (now (goal .entry)) .admits) (parts (now (kinds .entry)) (now (sets .entry))) other → before (now (load .entry)) other ≡ true → ⊥) ⌝ }
-{
-    let marks = Marks::new(cells, width, kinds, sets);
-    marks.next_load::<G>(goal, load)
+    if onwards {
+        marks.next_load::<G>(goal, load)
+    } else {
+        marks.first_load::<G>(goal, load)
+    }
 }
