@@ -97,6 +97,16 @@ impl<'a> Marks<'a> {
         self.stands(i, d) && self.is_closed(i + 1, b + self.blocks(i, d))
     }
 
+    // Whether the count given for the kind at i can be raised to d.
+    fn can_raise(&self, i: usize, b: usize, given: u8, d: u8) -> bool
+        requires { ⌜ i < kindsIn (now self) ⌝ }
+        requires { ⌜ b < 4294967296 ⌝ }
+        requires { ⌜ d < 64 ⌝ }
+        ensures { λ r. ⌜ r ≡ (ltb given d && closesIn (now (self .entry)) i b d) ⌝ }
+    {
+        given < d && self.can_close(i, b, d)
+    }
+
     // The least count that can be closed, where there is one.
     fn least_count(&self, i: usize, b: usize) -> u8
         requires { ⌜ i < kindsIn (now self) ⌝ }
@@ -163,7 +173,7 @@ impl<'a> Marks<'a> {
             let given = load[i];
             total -= self.blocks(i, given);
             for d in 0..64u8 {
-                if given < d && self.can_close(i, total, d) {
+                if self.can_raise(i, total, given, d) {
                     found = Some(Raised {
                         place: i,
                         count: d,

@@ -8,9 +8,7 @@ use borrow.Author.Count.{below-more}
 use Rattle.meaning.specs.Paths.{totalTo}
 use Rattle.search.proofs.Finding.{lower}
 use Rattle.search.proofs.Read.{parts-long, taken-off}
-use Rattle.search.proofs.marks.Marks.raise.Needs.{else-given-d·by·else-given-d, else-given-d·by·then-given-d·else-can-close}
 use Rattle.search.specs.Seen.{closesIn, partIn, partsIn, raisesIn}
-use Rattle.std.proofs.shelf.Tests.{and-left, and-right, and-from, le-ltb, lt-ltb}
 use Rattle.search.proofs.marks.Marks.raise.Needs as need
 
 pub sub-total : need.sub-total
@@ -36,16 +34,11 @@ loop-d-again c =
     let i = c .raised .i - 1 in
     let d = c .loop-d .d in
     let t = taken-off m given i (c .raised .i) (c .raised .total) (c .blocks-total .result) (omega arith) (c .pre) (omega arith) (c .raised .inv .2) (c .blocks-total .ensures .value) in
-    let here : raisesIn m given i d ≡ false = elim (c .else-given-d .came) [
-      | else-given-d·by·then-given-d·else-can-close w ↦
-          and-right (ltb (getD given i 0) d) (closesIn m i (totalTo (partsIn m) given i) d)
-          (ap (λ b. closesIn m i b d) (sym (t .1)) ∙ sym (w .can-close .ensures) ∙ w .if-can-close .left)
-      | else-given-d·by·else-given-d w ↦ and-left (ltb (getD given i 0) d) (closesIn m i (totalTo (partsIn m) given i) d) (le-ltb (getD given i 0) d (w .if-given-d .left))
-    ] in
+    let here : raisesIn m given i d ≡ false = ap (λ b. ltb (getD given i 0) d && closesIn m i b d) (sym (t .1)) ∙ sym (c .can-raise .ensures) ∙ c .if-can-raise .left in
     (c .loop-d .inv .0, c .loop-d .inv .1, below-more _ _ (c .loop-d .inv .2) here)
 
-pub returns-then-can-close : need.returns-then-can-close
-returns-then-can-close c =
+pub returns-then-can-raise : need.returns-then-can-raise
+returns-then-can-raise c =
     let m = c .args .self .now in
     let given = c .args .load .now in
     let i = c .raised .i - 1 in
@@ -55,10 +48,8 @@ returns-then-can-close c =
       place = omega (arith, parts-long m);
       count = c .loop-d-test .taken;
       stands = c .reach-lead .ensures .leads .stands i (omega arith);
-      total = ap (λ b. b + c .blocks-then-can-close .result) (t .1) ∙ ap (λ v. totalTo (partsIn m) given i + v) (c .blocks-then-can-close .ensures .value);
-      raised =
-          and-from (ltb (getD given i 0) d) (closesIn m i (totalTo (partsIn m) given i) d) (lt-ltb (getD given i 0) d (c .if-given-d .taken))
-          (ap (λ b. closesIn m i b d) (sym (t .1)) ∙ sym (c .can-close .ensures) ∙ c .if-can-close .taken);
+      total = ap (λ b. b + c .blocks-then-can-raise .result) (t .1) ∙ ap (λ v. totalTo (partsIn m) given i + v) (c .blocks-then-can-raise .ensures .value);
+      raised = ap (λ b. ltb (getD given i 0) d && closesIn m i b d) (sym (t .1)) ∙ sym (c .can-raise .ensures) ∙ c .if-can-raise .taken;
       least = c .loop-d .inv .2;
       last = c .loop-d .inv .1;
     }
