@@ -1,4 +1,4 @@
-// The planner's program. Today it settles one worked case and prints what stands and the three tallies.
+// The planner's program. Today it settles one worked case and prints what stands, the first load and the three tallies.
 use measures::loads::Loads;
 use measures::loads::LoadsMeasure;
 use measures::prices::Highest;
@@ -107,7 +107,23 @@ fn print_tallies<G: Goal + Drop>(rt: &LibcRuntime, plan: &Plan<G>) -> io::Result
     }
 }
 
-// What stands of the case under the goal, and its tallies.
+// One line: the first load of the plan.
+fn print_first<G: Goal + Drop>(rt: &LibcRuntime, plan: &Plan<G>, many: usize) -> io::Result<()> {
+    let mut forward = [0u8; 4096];
+    let mut backward = [0u8; 4096];
+    let mut counts = [0u8; 32];
+    let load = &mut counts[..many.min(32)];
+    match plan.first_load(load, &mut forward, &mut backward) {
+        Ok(()) => print!(rt, "first load")?,
+        Err(refusal) => return print_refusal(rt, refusal),
+    }
+    for count in load.iter() {
+        print!(rt, " {count}")?;
+    }
+    println!(rt, "")
+}
+
+// What stands of the case under the goal, its first load, and its tallies.
 fn print_plan<G: Goal + Drop>(rt: &LibcRuntime, case: &Case, goal: G) -> io::Result<()> {
     let mut plan = Plan::blank(goal);
     let mut forward = [0u8; 4096];
@@ -117,6 +133,7 @@ fn print_plan<G: Goal + Drop>(rt: &LibcRuntime, case: &Case, goal: G) -> io::Res
         Err(refusal) => return print_refusal(rt, refusal),
     }
     print_standing(rt, &plan)?;
+    print_first(rt, &plan, case.kinds().len())?;
     print_tallies(rt, &plan)
 }
 

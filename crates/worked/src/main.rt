@@ -150,16 +150,17 @@ fn compare<G: Goal + Drop>(
     let mut counts = [0u8; 32];
     println!(rt, "{name}")?;
     let many = case.kinds().len();
-    if plan.settle(case, &mut forward, &mut backward).is_err() {
+    if let Err(refusal) = plan.settle(case, &mut forward, &mut backward) {
         first_list(case.kinds(), &mut counts);
-        let none = !is_at_fitting(case, plan.goal(), &mut counts);
-        println!(rt, "  not settled; the plain lister has a load: {}", !none)?;
-        score.count(none, 0);
+        let number = refusal.number();
+        let is_none = !is_at_fitting(case, plan.goal(), &mut counts);
+        println!(rt, "  settle is refused with {number}")?;
+        score.count(number == 8 && is_none, 0);
         return Ok(());
     }
     match loads_shared(rt, &plan, case, &mut load[..many], &mut counts[..many])? {
         Some(loads) => {
-            println!(rt, "  the same {loads} loads")?;
+            println!(rt, "  loads, the same in both lists: {loads}")?;
             score.count(true, loads);
         }
         None => {
