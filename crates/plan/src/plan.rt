@@ -5,6 +5,7 @@ ghost use lib.ListN.{length};
 ghost use Rattle.plan.specs.View.{Inside};
 use model::case::Case;
 
+pub mod ruling;
 pub mod seeking;
 pub mod settling;
 pub mod telling;

@@ -8,3 +8,5 @@ pub mod matrices;
 mod model_trials;
 #[cfg(test)]
 mod plan_trials;
+#[cfg(test)]
+mod ruling_trials;
