@@ -1,4 +1,6 @@
 // The answer to a case file, as the program writes it: the line of its fault, or the lines of its plan.
+#![tactic(auto)]
+
 mod planned;
 
 use casefile::answers::Answers;

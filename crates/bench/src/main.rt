@@ -1,5 +1,7 @@
 // Does the planner's calls at 32 kinds and a top of 4,095, and prints what they answer. With a number of turns as its argument, it also prints
 // the best time of so many turns.
+#![tactic(auto)]
+
 mod inputs;
 mod lent;
 mod work;

@@ -1,5 +1,7 @@
 // A program that uses branches as they are meant to be used: each is given back, by keep or by withdraw, and then no more. The edits in
 // misuse/ let one go, and give one back twice; the compiler refuses both.
+#![tactic(auto)]
+
 ghost use Rattle.std.specs.Prelude.{◌≡◌, ◌+◌, ◌≤◌};
 ghost use Rattle.meaning.specs.Life.{open_in};
 ghost use Rattle.plan.specs.Seen.{life};

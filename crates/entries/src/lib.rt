@@ -1,4 +1,6 @@
 // Calls of a plan as values, each with room for its answer.
+#![tactic(auto)]
+
 ghost use Rattle.std.specs.Prelude.{◌≡◌, Some, None};
 
 use model::refusal::Refusal;

@@ -1,4 +1,6 @@
 // A case file, read field by field.
+#![tactic(auto)]
+
 ghost use Rattle.fields.specs.Reading.{Inverse};
 
 pub mod cursor;

@@ -1,4 +1,6 @@
 // Small case files with their outcomes, as tests.
+#![tactic(auto)]
+
 #[cfg(test)]
 mod drafts;
 #[cfg(test)]

@@ -1,4 +1,6 @@
 // The planner's program: reads a case file from standard input and prints its plan, or its one fault.
+#![tactic(auto)]
+
 use answering::write_answer;
 use std::io::Read;
 

@@ -1,4 +1,6 @@
 // The meaning of plans: definitions in specs/, theorems proved for them.
+#![tactic(auto)]
+
 ghost use Rattle.meaning.specs.Claims.{StandingLoads, CallShows, HistoryStands, SetsSound};
 ghost use Rattle.meaning.specs.Finding.{RunsRight};
 ghost use Rattle.meaning.specs.Paths.{MarksAndLoads};

@@ -1,4 +1,6 @@
 // What is tallied over loads.
+#![tactic(auto)]
+
 ghost use Rattle.std.specs.Prelude.{◌≡◌};
 ghost use Rattle.meaning.specs.Measures.{Means, Laws};
 

@@ -1,4 +1,6 @@
 // The subject's vocabulary: kinds, cases, sets of counts, goals, and why a call is refused.
+#![tactic(auto)]
+
 ghost use Rattle.model.specs.Claims.{ChoicesListed, LoadsListed, OrderTold};
 
 pub mod case;

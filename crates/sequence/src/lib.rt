@@ -1,4 +1,6 @@
 // The order of the fields in a case file, and what a run over them is.
+#![tactic(auto)]
+
 ghost use Rattle.sequence.specs.Sequence.{Sequenced};
 
 pub mod phase;

@@ -1,4 +1,6 @@
 // Tables of cells over lent slices: the passes that fill them, and what can be read off them.
+#![tactic(auto)]
+
 pub mod asking;
 mod backward;
 mod forward;

@@ -1,4 +1,6 @@
 // Examples of the public calls, as tests.
+#![tactic(auto)]
+
 #[cfg(test)]
 mod cases;
 #[cfg(test)]

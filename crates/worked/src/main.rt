@@ -1,4 +1,6 @@
 // Lists all loads of several cases by first load and next load, and compares them with those of a plain lister.
+#![tactic(auto)]
+
 mod cases;
 mod lister;
 
