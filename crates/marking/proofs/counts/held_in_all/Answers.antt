@@ -13,8 +13,8 @@ loop-i-preserved c =
     let long : c.loop-i.i < length c.args.sets.now = search rules in
     let more : held_in_all (take (c.loop-i.i + 1) c.args.sets.now) ≡ held_in_all (take c.loop-i.i c.args.sets.now) + held (get_or c.args.sets.now c.loop-i.i 0)
     = sum_by_more held c.args.sets.now c.loop-i.i 0 long in (
-      ap₂ (λ (a b : ℕ). a + b) c.loop-i.invariant.0 c.how-many-all.ensures.members ∙ sym more,
-      step_le c.loop-i.all c.how-many-all.result c.loop-i.i c.loop-i.invariant.1 c.how-many-all.ensures.few,
+      ap₂ (λ (a b : ℕ). a + b) c.loop-i.invariant.0 c.how_many-all.ensures.members ∙ sym more,
+      step_le c.loop-i.all c.how_many-all.result c.loop-i.i c.loop-i.invariant.1 c.how_many-all.ensures.few,
     )
 
 pub returns : goal.returns

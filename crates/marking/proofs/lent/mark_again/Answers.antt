@@ -7,17 +7,17 @@ use Rattle.meaning.proofs.Grid.{over_holds}
 use Rattle.marking.proofs.Marked.{ends_once, ends_twice, ends_past, ahead_long, back_long, both_made, asked_still}
 use Rattle.marking.proofs.lent.mark_again.Goals as goal
 
-pub fill-marks-requires : goal.fill-marks-requires
-fill-marks-requires g c =
+pub fill_marks-requires : goal.fill_marks-requires
+fill_marks-requires g c =
     let t = g.G.Goal.means c.args.goal.now in
     let ks = c.args.kinds.now in
     let ss = c.args.sets.now in
     let n = length ks in
     let same : length ss ≡ n = c.requires.new.same in
     let few : n ≤ 32 = c.requires.new.few in
-    let wide : c.new-ahead.result.width ≡ t.top + 1 = c.new-ahead.ensures.width ∙ c.width-of-width.ensures.value in
-    let wide' : c.new-back.result.width ≡ t.top + 1 = c.new-back.ensures.width ∙ c.width-of-width.ensures.value in
-    let low : t.top ≤ 4095 = omega (arith, c.width-of-width.ensures.low, c.width-of-width.ensures.value) in
+    let wide : c.new-ahead.result.width ≡ t.top + 1 = c.new-ahead.ensures.width ∙ c.width_of-width.ensures.value in
+    let wide' : c.new-back.result.width ≡ t.top + 1 = c.new-back.ensures.width ∙ c.width_of-width.ensures.value in
+    let low : t.top ≤ 4095 = omega (arith, c.width_of-width.ensures.low, c.width_of-width.ensures.value) in
     record {
       ready = both_made t ks c.args.old.now c.prune.new.ahead.width c.prune.new.back.width c.prune.new.ahead.cells.now c.prune.new.back.cells.now low
           (c.prune.ensures.aheadwidth ∙ wide) (c.prune.ensures.backwidth ∙ c.ask.ensures.width ∙ wide') c.requires.old
@@ -27,19 +27,19 @@ fill-marks-requires g c =
           (c.prune.ensures.backwidth ∙ c.ask.ensures.width ∙ wide' ∙ sym wide) c.prune.ensures.back;
     }
 
-pub refill-marks-requires : goal.refill-marks-requires
-refill-marks-requires g c =
+pub refill_marks-requires : goal.refill_marks-requires
+refill_marks-requires g c =
     let t = g.G.Goal.means c.args.goal.now in
     let ks = c.args.kinds.now in
     let ss = c.args.sets.now in
     let n = length ks in
     let same : length ss ≡ n = c.requires.new.same in
     let few : n ≤ 32 = c.requires.new.few in
-    let wide : c.new-ahead.result.width ≡ t.top + 1 = c.new-ahead.ensures.width ∙ c.width-of-width.ensures.value in
-    let wide' : c.new-back.result.width ≡ t.top + 1 = c.new-back.ensures.width ∙ c.width-of-width.ensures.value in
+    let wide : c.new-ahead.result.width ≡ t.top + 1 = c.new-ahead.ensures.width ∙ c.width_of-width.ensures.value in
+    let wide' : c.new-back.result.width ≡ t.top + 1 = c.new-back.ensures.width ∙ c.width_of-width.ensures.value in
     let next = take n c.in-Some.left in
     let long : length (take n c.in-Some.left) ≡ n = length-take n c.in-Some.left ∙ (let m : min n (length c.in-Some.left) ≡ n = search rules in m) in
-    let low : t.top ≤ 4095 = omega (arith, c.width-of-width.ensures.low, c.width-of-width.ensures.value) in
+    let low : t.top ≤ 4095 = omega (arith, c.width_of-width.ensures.low, c.width_of-width.ensures.value) in
     record {
       ready = both_made t ks next c.prune.new.ahead.width c.prune.new.back.width c.prune.new.ahead.cells.now c.prune.new.back.cells.now low
           (c.prune.ensures.aheadwidth ∙ wide) (c.prune.ensures.backwidth ∙ c.ask.ensures.width ∙ wide') long
@@ -61,8 +61,8 @@ returns-in-None g c =
     let n = length ks in
     let same : length ss ≡ n = c.requires.new.same in
     let few : n ≤ 32 = c.requires.new.few in
-    let wide : c.new-ahead.result.width ≡ t.top + 1 = c.new-ahead.ensures.width ∙ c.width-of-width.ensures.value in
-    let wide' : c.new-back.result.width ≡ t.top + 1 = c.new-back.ensures.width ∙ c.width-of-width.ensures.value in
+    let wide : c.new-ahead.result.width ≡ t.top + 1 = c.new-ahead.ensures.width ∙ c.width_of-width.ensures.value in
+    let wide' : c.new-back.result.width ≡ t.top + 1 = c.new-back.ensures.width ∙ c.width_of-width.ensures.value in
     let A = tallies yes_no (parts ks ss) in
     let B = tallies_back yes_no t.admits (parts ks ss) in
     let ahead₁ : c.prune.new.ahead.cells.now ≡ over (A (t.top + 1)) c.args.forward.now =
@@ -72,13 +72,13 @@ returns-in-None g c =
     let A' = tallies yes_no (parts ks c.args.old.now) in
     let B' = tallies_back yes_no t.admits (parts ks c.args.old.now) in
     let wide₂ : c.prune.new.ahead.width ≡ t.top + 1 = c.prune.ensures.aheadwidth ∙ wide in
-    let ahead-ends : c.fill-marks.new.ahead.cells.now ≡ over (A' (t.top + 1)) c.args.forward.now =
+    let ahead-ends : c.fill_marks.new.ahead.cells.now ≡ over (A' (t.top + 1)) c.args.forward.now =
     ends_twice (A' (t.top + 1)) (A (t.top + 1)) _ _ _ (ahead_long yes_no ks c.args.old.now (t.top + 1) c.requires.old ∙ sym (ahead_long yes_no ks ss (t.top + 1) same)) ahead₁
-    (ends_once A' c.prune.new.ahead.width (t.top + 1) _ _ _ c.fill-marks.ensures.ahead wide₂ refl) in
-    let back₂ : c.fill-marks.new.back.cells.now ≡ over (B' (t.top + 1)) c.ask.new.table.cells.now =
+    (ends_once A' c.prune.new.ahead.width (t.top + 1) _ _ _ c.fill_marks.ensures.ahead wide₂ refl) in
+    let back₂ : c.fill_marks.new.back.cells.now ≡ over (B' (t.top + 1)) c.ask.new.table.cells.now =
     ends_twice (B' (t.top + 1)) (B (t.top + 1)) _ _ _ (back_long t.admits ks c.args.old.now (t.top + 1) c.requires.old ∙ sym (back_long t.admits ks ss (t.top + 1) same)) back₁
-    (ends_once B' c.prune.new.ahead.width (t.top + 1) _ _ _ c.fill-marks.ensures.back wide₂ refl) in
-    let back-ends : c.fill-marks.new.back.cells.now ≡ over (B' (t.top + 1)) c.args.backward.now =
+    (ends_once B' c.prune.new.ahead.width (t.top + 1) _ _ _ c.fill_marks.ensures.back wide₂ refl) in
+    let back-ends : c.fill_marks.new.back.cells.now ≡ over (B' (t.top + 1)) c.args.backward.now =
     ends_past (B' (t.top + 1)) c.new-back.result.cells.now c.ask.new.table.cells.now _ ((n + 1) * c.new-back.result.width)
     (back_long t.admits ks c.args.old.now (t.top + 1) c.requires.old ∙ ap (λ k. (n + 1) * k) (sym wide')) c.ask.ensures.past back₂
     ∙ ap (over (B' (t.top + 1))) c.new-back.ensures.cells in
@@ -92,8 +92,8 @@ returns-in-Some g c =
     let n = length ks in
     let same : length ss ≡ n = c.requires.new.same in
     let few : n ≤ 32 = c.requires.new.few in
-    let wide : c.new-ahead.result.width ≡ t.top + 1 = c.new-ahead.ensures.width ∙ c.width-of-width.ensures.value in
-    let wide' : c.new-back.result.width ≡ t.top + 1 = c.new-back.ensures.width ∙ c.width-of-width.ensures.value in
+    let wide : c.new-ahead.result.width ≡ t.top + 1 = c.new-ahead.ensures.width ∙ c.width_of-width.ensures.value in
+    let wide' : c.new-back.result.width ≡ t.top + 1 = c.new-back.ensures.width ∙ c.width_of-width.ensures.value in
     let next = take n c.in-Some.left in
     let long : length (take n c.in-Some.left) ≡ n = length-take n c.in-Some.left ∙ (let m : min n (length c.in-Some.left) ≡ n = search rules in m) in
     let A = tallies yes_no (parts ks ss) in
@@ -105,13 +105,13 @@ returns-in-Some g c =
     let A' = tallies yes_no (parts ks next) in
     let B' = tallies_back yes_no t.admits (parts ks next) in
     let wide₂ : c.prune.new.ahead.width ≡ t.top + 1 = c.prune.ensures.aheadwidth ∙ wide in
-    let ahead-ends : c.refill-marks.new.ahead.cells.now ≡ over (A' (t.top + 1)) c.args.forward.now =
+    let ahead-ends : c.refill_marks.new.ahead.cells.now ≡ over (A' (t.top + 1)) c.args.forward.now =
     ends_twice (A' (t.top + 1)) (A (t.top + 1)) _ _ _ (ahead_long yes_no ks next (t.top + 1) long ∙ sym (ahead_long yes_no ks ss (t.top + 1) same)) ahead₁
-    (ends_once A' c.prune.new.ahead.width (t.top + 1) _ _ _ c.refill-marks.ensures.ahead wide₂ refl) in
-    let back₂ : c.refill-marks.new.back.cells.now ≡ over (B' (t.top + 1)) c.ask.new.table.cells.now =
+    (ends_once A' c.prune.new.ahead.width (t.top + 1) _ _ _ c.refill_marks.ensures.ahead wide₂ refl) in
+    let back₂ : c.refill_marks.new.back.cells.now ≡ over (B' (t.top + 1)) c.ask.new.table.cells.now =
     ends_twice (B' (t.top + 1)) (B (t.top + 1)) _ _ _ (back_long t.admits ks next (t.top + 1) long ∙ sym (back_long t.admits ks ss (t.top + 1) same)) back₁
-    (ends_once B' c.prune.new.ahead.width (t.top + 1) _ _ _ c.refill-marks.ensures.back wide₂ refl) in
-    let back-ends : c.refill-marks.new.back.cells.now ≡ over (B' (t.top + 1)) c.args.backward.now =
+    (ends_once B' c.prune.new.ahead.width (t.top + 1) _ _ _ c.refill_marks.ensures.back wide₂ refl) in
+    let back-ends : c.refill_marks.new.back.cells.now ≡ over (B' (t.top + 1)) c.args.backward.now =
     ends_past (B' (t.top + 1)) c.new-back.result.cells.now c.ask.new.table.cells.now _ ((n + 1) * c.new-back.result.width)
     (back_long t.admits ks next (t.top + 1) long ∙ ap (λ k. (n + 1) * k) (sym wide')) c.ask.ensures.past back₂
     ∙ ap (over (B' (t.top + 1))) c.new-back.ensures.cells in

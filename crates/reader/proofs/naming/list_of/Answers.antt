@@ -11,11 +11,11 @@ returns-then-many-gt-MOST-LISTED c =
 pub returns-in-Ok : goal.returns-in-Ok
 returns-in-Ok c =
     let bs = c.args.part.now in
-    let e = ap (λ n. take n c.totals-of-totals.result) (halved bs) ∙ c.totals-of-totals.ensures.front in
+    let e = ap (λ n. take n c.totals_of-totals.result) (halved bs) ∙ c.totals_of-totals.ensures.front in
     search rules
 
 pub returns-in-Err : goal.returns-in-Err
 returns-in-Err c =
     let bs = c.args.part.now in
-    let e = ap (λ n. take n c.totals-of-totals.result) (halved bs) ∙ c.totals-of-totals.ensures.front in
+    let e = ap (λ n. take n c.totals_of-totals.result) (halved bs) ∙ c.totals_of-totals.ensures.front in
     search rules

@@ -9,10 +9,10 @@ loop-i-preserved c =
     let bs = c.args.part.now in
     let ys = c.loop-i.totals in
     let i = c.loop-i.i in
-    let v = c.total-at.result in
+    let v = c.total_at.result in
     let room : i < length ys = omega (arith, c.requires, c.loop-i.invariant.0, c.loop-i-test.true) in
     let inside : i < length (totals bs) = omega (arith, halved bs, c.loop-i-test.true) in
-    let is : get_or (totals bs) i 0 ≡ v = total_is bs i (omega (arith, c.loop-i-test.true)) ∙ sym c.total-at.ensures in (
+    let is : get_or (totals bs) i 0 ≡ v = total_is bs i (omega (arith, c.loop-i-test.true)) ∙ sym c.total_at.ensures in (
       length-set ys i v ∙ c.loop-i.invariant.0,
       take_more_set ys i v room ∙ (ap (λ zs. zs ++ v ∷ []) c.loop-i.invariant.1 ∙ (ap (λ x. take i (totals bs) ++ x ∷ []) (sym is) ∙ sym (take_more (totals bs) i 0 inside))),
     )

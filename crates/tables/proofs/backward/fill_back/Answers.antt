@@ -15,8 +15,8 @@ loop-i-init g c =
 pub overflow-mul-i : goal.overflow-mul-i
 overflow-mul-i g c = omega (arith, mul-le (c.loop-i.i - 1) c.args.width (length c.args.kinds.now + 1) c.args.width (omega arith) (omega arith))
 
-pub fill-row-back-requires : goal.fill-row-back-requires
-fill-row-back-requires g c = omega (arith, c.requires.ready.room, mul-le (c.loop-i.i - 1 + 2) c.args.width (length c.args.kinds.now + 1) c.args.width (omega arith) (omega arith))
+pub fill_row_back-requires : goal.fill_row_back-requires
+fill_row_back-requires g c = omega (arith, c.requires.ready.room, mul-le (c.loop-i.i - 1 + 2) c.args.width (length c.args.kinds.now + 1) c.args.width (omega arith) (omega arith))
 
 pub loop-i-preserved : goal.loop-i-preserved
 loop-i-preserved g c =
@@ -31,7 +31,7 @@ loop-i-preserved g c =
     let n : i < length (parts ks ss) = omega (arith, length_parts ks ss e) in
     let read : p ≡ get_or (parts ks ss) i p = parts_at ks ss i c.index-kinds-i.result (get_or ss i 0) p (omega arith) (omega arith) c.index-kinds-i.is refl in
     let P : ℕ → Type 0 = λ j. FilledFrom m adm (parts ks ss) c.args.width j c.args.cells.now c.loop-i.cells in
-    (omega arith, back_more m adm (parts ks ss) c.args.width i p _ c.loop-i.cells c.fill-row-back.new.cells n read (subst P one_up c.loop-i.invariant.1) c.fill-row-back.ensures.row c.fill-row-back.ensures.above)
+    (omega arith, back_more m adm (parts ks ss) c.args.width i p _ c.loop-i.cells c.fill_row_back.new.cells n read (subst P one_up c.loop-i.invariant.1) c.fill_row_back.ensures.row c.fill_row_back.ensures.above)
 
 pub returns : goal.returns
 returns g c =

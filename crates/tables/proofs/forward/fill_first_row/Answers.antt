@@ -8,15 +8,15 @@ unfolding first_row
 returns g c =
     let m = g.M.Measure.means in
     let z = m.zero in
-    let cells = c.zero-cells.new.cells in
+    let cells = c.zero_cells.new.cells in
     let v = c.one.result in
-    let some : 0 < length cells = omega (arith, c.zero-cells.auto.cells) in
+    let some : 0 < length cells = omega (arith, c.zero_cells.auto.cells) in
     record {
       row = λ b h. elim (cases_eq b 0) [
         | inl e ↦ ap (λ k. get_or (set cells 0 v) k z) e ∙ get_or-set_same cells 0 v z some ∙ c.one.ensures ∙ sym (cond-true _ m.one z (eq-eqb b 0 e))
         | inr ne ↦
-            get_or-set_other cells 0 b v z ne ∙ ap (λ k. get_or cells k z) (sym (zero-add b)) ∙ c.zero-cells.ensures.part b h
+            get_or-set_other cells 0 b v z ne ∙ ap (λ k. get_or cells k z) (sym (zero-add b)) ∙ c.zero_cells.ensures.part b h
             ∙ sym (cond-false _ m.one z (ne_eqb b 0 ne))
       ];
-      above = λ k h. get_or-set_other cells 0 k v z (λ e. omega arith) ∙ c.zero-cells.ensures.above k (omega arith);
+      above = λ k h. get_or-set_other cells 0 k v z (λ e. omega arith) ∙ c.zero_cells.ensures.above k (omega arith);
     }

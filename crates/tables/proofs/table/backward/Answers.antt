@@ -14,8 +14,8 @@ returns g c =
     let adm = (g.G.Goal.means c.args.goal.now).admits in
     let bound : (t : ℕ) → adm t ≡ true → t < w = λ t y. omega (arith, c.requires.wide, g.met.G.Goal.bounded c.args.goal.now t y) in
     record {
-      cells = tallied_back yes_no yes_no_laws adm w bound (parts ks ss) (cheap_parts ks ss) (length ks) _ _ c.requires.ready.pos (length_parts ks ss c.requires.ready.same) c.fill-back.auto.cells c.requires.ready.room c.fill-back.ensures;
+      cells = tallied_back yes_no yes_no_laws adm w bound (parts ks ss) (cheap_parts ks ss) (length ks) _ _ c.requires.ready.pos (length_parts ks ss c.requires.ready.same) c.fill_back.auto.cells c.requires.ready.room c.fill_back.ensures;
       width = refl;
-      long = c.fill-back.auto.cells;
+      long = c.fill_back.auto.cells;
       name = refl;
     }

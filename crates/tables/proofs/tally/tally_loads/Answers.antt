@@ -6,8 +6,8 @@ use Rattle.meaning.proofs.Grid.{over_holds}
 use Rattle.meaning.proofs.Choosing.{row_answers, cheap_parts}
 use Rattle.tables.proofs.tally.tally_loads.Goals as goal
 
-pub join-last-requires : goal.join-last-requires
-join-last-requires g c =
+pub join_last-requires : goal.join_last-requires
+join_last-requires g c =
     let same : c.forward.new.table.width ≡ c.args.table.now.width = c.forward.ensures.width in
     omega (arith, ap (λ v. length c.args.kinds.now * v) same, c.forward.ensures.long, c.requires.ready.room)
 
@@ -21,7 +21,7 @@ returns g c =
     let bound : (t : ℕ) → adm t ≡ true → t < w = λ t y. omega (arith, c.requires.wide, g.met.G.Goal.bounded c.args.goal.now t y) in
     let held : Holds (tallies m (parts ks ss) w) c.forward.new.table.cells.now = rw c.forward.ensures.cells (over_holds (tallies m (parts ks ss) w) c.args.table.now.cells.now) in
     record {
-      answer = c.join-last.ensures ∙ row_answers m g.met.M.Measure.lawful adm w c.forward.new.table.width bound (parts ks ss) (cheap_parts ks ss) (length ks) (length_parts ks ss c.requires.ready.same) c.forward.new.table.cells.now held c.forward.ensures.width;
+      answer = c.join_last.ensures ∙ row_answers m g.met.M.Measure.lawful adm w c.forward.new.table.width bound (parts ks ss) (cheap_parts ks ss) (length ks) (length_parts ks ss c.requires.ready.same) c.forward.new.table.cells.now held c.forward.ensures.width;
       cells = c.forward.ensures.cells;
       name = c.forward.ensures.name;
     }

@@ -12,13 +12,13 @@ loop-d-preserved g c =
     let U = λ (k : ℕ). uses (fits (g.G.Goal.means c.args.goal.now).admits (parts c.args.kinds.now c.args.sets.now)) c.args.i k in
     let d = c.loop-d.d in
     let old = c.loop-d.found in
-    let new = c.put-if-found.result in
-    let y = c.is-used-yes.result in
-    let same : has new d ≡ y = c.put-if-found.ensures d ∙ put_same y (has old d) d (c.loop-d.invariant.1 d (omega arith)) in
-    let other : (k : ℕ) → ((k ≡ d) → ⊥) → has new k ≡ has old k = λ k ne. c.put-if-found.ensures k ∙ put_other y (has old k) k d ne in (
+    let new = c.put_if-found.result in
+    let y = c.is_used-yes.result in
+    let same : has new d ≡ y = c.put_if-found.ensures d ∙ put_same y (has old d) d (c.loop-d.invariant.1 d (omega arith)) in
+    let other : (k : ℕ) → ((k ≡ d) → ⊥) → has new k ≡ has old k = λ k ne. c.put_if-found.ensures k ∙ put_other y (has old k) k d ne in (
       below_more (λ k. has new k ≡ U k) d
           (λ k h. other k (λ e. omega arith) ∙ c.loop-d.invariant.0 k h)
-          (same ∙ c.is-used-yes.ensures),
+          (same ∙ c.is_used-yes.ensures),
       (λ k h. other k (λ e. omega arith) ∙ c.loop-d.invariant.1 k (omega arith)),
       search rules,
     )

@@ -12,13 +12,13 @@ loop-i-preserved g c =
     let U = λ (j : ℕ). set_of (uses (fits (g.G.Goal.means c.args.goal.now).admits (parts c.args.kinds.now c.args.sets.now)) j) in
     let i = c.loop-i.i in
     let xs = c.loop-i.next in
-    let v = c.used-set-found.result in
+    let v = c.used_set-found.result in
     let few : length c.args.kinds.now ≤ 32 = c.requires.few in
     let lt : i < length xs = omega (arith, c.loop-i.invariant.0) in (
       length-set xs i v ∙ c.loop-i.invariant.0,
       below_more (λ j. get_or (set xs i v) j 0 ≡ U j) i
           (λ j h. get_or-set_other xs i j v 0 (λ e. omega arith) ∙ c.loop-i.invariant.1 j h)
-          (get_or-set_same xs i v 0 lt ∙ c.used-set-found.ensures),
+          (get_or-set_same xs i v 0 lt ∙ c.used_set-found.ensures),
     )
 
 pub returns : goal.returns

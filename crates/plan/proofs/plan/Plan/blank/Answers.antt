@@ -3,8 +3,8 @@ use Rattle.model.proofs.Adding.{no_kinds}
 use Rattle.meaning.proofs.PlanFields.{inside_none, blank_is}
 use Rattle.plan.proofs.plan.Plan.blank.Goals as goal
 
-pub invariant-of-result : goal.invariant-of-result
-invariant-of-result g c =
+pub invariant_of-result : goal.invariant_of-result
+invariant_of-result g c =
     let none = no_kinds c.new.result c.new.ensures in
     (refl, (lit≤ tt, (inside_none c.new.result.many (replicate 32 0) (replicate 8 (replicate 32 0)) (λ j h. absurd (omega arith)), tt)))
 

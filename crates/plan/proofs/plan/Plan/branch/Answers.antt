@@ -9,23 +9,23 @@ use Rattle.meaning.proofs.PlanFields.{called_live}
 use Rattle.plan.proofs.Stage.{some_kinds}
 use Rattle.plan.proofs.plan.Plan.branch.Goals as goal
 
-pub returns-then-is-full : goal.returns-then-is-full
-returns-then-is-full g c =
+pub returns-then-is_full : goal.returns-then-is_full
+returns-then-is_full g c =
     let p = c.args.self.now in
     let t = g.G.Goal.means p.goal in
     let n = p.case.many in
-    let some : 0 < n = some_kinds n _ c.is-blank.ensures c.if-is-blank.false in
+    let some : 0 < n = some_kinds n _ c.is_blank.ensures c.if-is_blank.false in
     record {
       does = called_live t p.case.kinds n p.standing p.standing p.noted p.noted p.opened p.opened branch (refused 12) some
-          (Branching.branch_refused (problem_of t n p.case.kinds) n p.standing p.noted p.opened (leb-true 8 p.opened (sym c.is-full.ensures ∙ c.if-is-full.true)));
+          (Branching.branch_refused (problem_of t n p.case.kinds) n p.standing p.noted p.opened (leb-true 8 p.opened (sym c.is_full.ensures ∙ c.if-is_full.true)));
       goal = refl;
     }
 
-pub invariant-of-self : goal.invariant-of-self
-invariant-of-self g c =
+pub invariant_of-self : goal.invariant_of-self
+invariant_of-self g c =
     let p = c.args.self.now in
     let long : length p.noted ≡ 8 = search rules in
-    let few : p.opened < 8 = leb-false 8 p.opened (sym c.is-full.ensures ∙ c.if-is-full.false) in
+    let few : p.opened < 8 = leb-false 8 p.opened (sym c.is_full.ensures ∙ c.if-is_full.false) in
     let In : List (List ℕ) → Type 0 = λ rows. ∥ Inside p.case.many p.standing rows (p.opened + 1) ∥₁ in
     (p.full, (omega arith, (subst In (sym c.note.ensures) (Branching.inside_more p.case.many p.standing p.noted p.opened (omega arith) p.inside), tt)))
 
@@ -34,9 +34,9 @@ returns g c =
     let p = c.args.self.now in
     let t = g.G.Goal.means p.goal in
     let n = p.case.many in
-    let some : 0 < n = some_kinds n _ c.is-blank.ensures c.if-is-blank.false in
+    let some : 0 < n = some_kinds n _ c.is_blank.ensures c.if-is_blank.false in
     let long : length p.noted ≡ 8 = search rules in
-    let few : p.opened < 8 = leb-false 8 p.opened (sym c.is-full.ensures ∙ c.if-is-full.false) in
+    let few : p.opened < 8 = leb-false 8 p.opened (sym c.is_full.ensures ∙ c.if-is_full.false) in
     let After : List (List ℕ) → Answer → Type 0 =
     λ rows a. Called (life_of t n p.case.kinds p.standing p.noted p.opened) branch (life_of t n p.case.kinds p.standing rows (p.opened + 1)) a in
     let Rows : List (List ℕ) → Type 0 = λ rows. After rows (accepted (p.opened + 1)) in
@@ -44,6 +44,6 @@ returns g c =
     (called_live t p.case.kinds n p.standing p.standing p.noted (set p.noted p.opened p.standing) p.opened (p.opened + 1) branch (accepted (p.opened + 1)) some
     (Branching.branch_opens (problem_of t n p.case.kinds) n p.standing p.noted p.opened few long)) in
     record {
-      does = subst (After c.note.new.noted) (ap accepted (sym (c.of.ensures ∙ c.number-after.ensures))) opens;
+      does = subst (After c.note.new.noted) (ap accepted (sym (c.of.ensures ∙ c.number_after.ensures))) opens;
       goal = refl;
     }

@@ -14,7 +14,7 @@ returns g c =
     let means = g.G.Goal.means in
     let m = g.M.Measure.means in
     let p = c.args.self.now in
-    let q = c.make-all.new.self in
+    let q = c.make_all.new.self in
     let before = life means p in
     let first = life means c.settle.new.self in
     let last = life means q in
@@ -24,21 +24,21 @@ returns g c =
     let f = length forward in
     let b = length backward in
     let entries = c.args.entries.now in
-    let n = c.in-ok-counts.counts in
+    let n = c.in_ok-counts.counts in
     let xs = calls_in f b entries in
-    let settled : Settled before kinds f b first (accepted n) = c.in-ok-counts.ensures.does in
+    let settled : Settled before kinds f b first (accepted n) = c.in_ok-counts.ensures.does in
     let same : calls_in (length c.settle.new.forward) (length c.settle.new.backward) entries ≡ xs = ap₂ (λ (u v : ℕ). calls_in u v entries) c.settle.auto.forward c.settle.auto.backward in
-    let goes : last ≡ life_after first xs = c.make-all.ensures.life ∙ ap (life_after first) same in
-    let said : answers_in c.make-all.new.entries ≡ map Some (replies first xs) = c.make-all.ensures.answers ∙ ap (λ (ys : List Call). map Some (replies first ys)) same in
+    let goes : last ≡ life_after first xs = c.make_all.ensures.life ∙ ap (life_after first) same in
+    let said : answers_in c.make_all.new.entries ≡ map Some (replies first xs) = c.make_all.ensures.answers ∙ ap (λ (ys : List Call). map Some (replies first ys)) same in
     let lives-on = still_lives before kinds f b n xs first last settled.life settled.answer goes in
     let many : c.of.result.many ≡ open_in last =
     c.of.ensures ∙ opened_are (means q.goal) q.case.many q.case.kinds q.standing q.noted q.opened _ _ lives-on in
     record {
-      tells = history_lived m before kinds f b xs (length c.args.values.now) first last (answers_in c.make-all.new.entries) n (outcome_as (λ v. v) c.tally-tally.result) c.of.result.many
+      tells = history_lived m before kinds f b xs (length c.args.values.now) first last (answers_in c.make_all.new.entries) n (outcome_as (λ v. v) c.tally-tally.result) c.of.result.many
           settled.life settled.answer goes said c.tally-tally.ensures.tells.answer many;
-      goal = c.make-all.ensures.goal ∙ c.in-ok-counts.ensures.goal;
-      entries = c.make-all.ensures.calls;
+      goal = c.make_all.ensures.goal ∙ c.in_ok-counts.ensures.goal;
+      entries = c.make_all.ensures.calls;
       values = c.tally-tally.ensures.tells.cells;
-      forward = c.make-all.ensures.forward forward c.in-ok-counts.ensures.forward;
-      backward = c.make-all.ensures.backward backward c.in-ok-counts.ensures.backward;
+      forward = c.make_all.ensures.forward forward c.in_ok-counts.ensures.forward;
+      backward = c.make_all.ensures.backward backward c.in_ok-counts.ensures.backward;
     }

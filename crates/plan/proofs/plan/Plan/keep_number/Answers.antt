@@ -8,23 +8,23 @@ use Rattle.meaning.proofs.PlanFields.{called_live}
 use Rattle.plan.proofs.Stage.{some_kinds}
 use Rattle.plan.proofs.plan.Plan.keep_number.Goals as goal
 
-pub returns-then-not-is-latest : goal.returns-then-not-is-latest
-returns-then-not-is-latest g c =
+pub returns-then-not-is_latest : goal.returns-then-not-is_latest
+returns-then-not-is_latest g c =
     let p = c.args.self.now in
     let t = g.G.Goal.means p.goal in
     let n = p.case.many in
-    let some : 0 < n = some_kinds n _ c.is-blank.ensures c.if-is-blank.false in
+    let some : 0 < n = some_kinds n _ c.is_blank.ensures c.if-is_blank.false in
     record {
       does = called_live t p.case.kinds n p.standing p.standing p.noted p.noted p.opened p.opened (keep c.args.number) (refused 13) some
-          (Branching.keep_other (problem_of t n p.case.kinds) n p.standing p.noted p.opened c.args.number (c.is-latest.ensures.no c.if-not-is-latest.true));
+          (Branching.keep_other (problem_of t n p.case.kinds) n p.standing p.noted p.opened c.args.number (c.is_latest.ensures.no c.if-not-is_latest.true));
       goal = refl;
     }
 
-pub invariant-of-self : goal.invariant-of-self
-invariant-of-self g c =
+pub invariant_of-self : goal.invariant_of-self
+invariant_of-self g c =
     let p = c.args.self.now in
-    let m = c.one-fewer-self.result in
-    let less : m ≤ p.opened = omega (arith, c.one-fewer-self.ensures) in
+    let m = c.one_fewer-self.result in
+    let less : m ≤ p.opened = omega (arith, c.one_fewer-self.ensures) in
     (p.full, (omega arith, (Branching.inside_fewer p.case.many p.standing p.noted p.opened m less p.inside, tt)))
 
 pub returns : goal.returns
@@ -32,11 +32,11 @@ returns g c =
     let p = c.args.self.now in
     let t = g.G.Goal.means p.goal in
     let n = p.case.many in
-    let some : 0 < n = some_kinds n _ c.is-blank.ensures c.if-is-blank.false in
-    let at = c.is-latest.ensures.yes c.if-not-is-latest.false in
+    let some : 0 < n = some_kinds n _ c.is_blank.ensures c.if-is_blank.false in
+    let at = c.is_latest.ensures.yes c.if-not-is_latest.false in
     let Open : ℕ → Type 0 = λ m. Called (life_of t n p.case.kinds p.standing p.noted p.opened) (keep c.args.number) (life_of t n p.case.kinds p.standing p.noted m) (accepted m) in
     record {
-      does = subst Open (sym c.one-fewer-self.ensures)
+      does = subst Open (sym c.one_fewer-self.ensures)
           (called_live t p.case.kinds n p.standing p.standing p.noted p.noted p.opened (p.opened - 1) (keep c.args.number) (accepted (p.opened - 1)) some
           (Branching.keep_closes (problem_of t n p.case.kinds) n p.standing p.noted p.opened c.args.number at.0 at.1));
       goal = refl;

@@ -9,29 +9,29 @@ use Rattle.plan.proofs.plan.Plan.make.Goals as goal
 pub returns-in-Branch : goal.returns-in-Branch
 returns-in-Branch g c =
     let l = life g.G.Goal.means c.args.self.now in
-    let last = life g.G.Goal.means c.make-branch.new.self in
+    let last = life g.G.Goal.means c.make_branch.new.self in
     let forward = c.args.forward.now in
     let backward = c.args.backward.now in
-    let a = reply_of c.make-branch.result in
+    let a = reply_of c.make_branch.result in
     let C : Call → Type 0 = λ x. Called l (asked (length forward) (length backward) x) last a in
     record {
-      does = subst C (sym c.in-Branch.is) c.make-branch.ensures.does;
-      goal = c.make-branch.ensures.goal;
-      forward = branched_on forward_marks ahead l last a c.make-branch.ensures.does forward;
-      backward = branched_on backward_marks back l last a c.make-branch.ensures.does backward;
+      does = subst C (sym c.in-Branch.is) c.make_branch.ensures.does;
+      goal = c.make_branch.ensures.goal;
+      forward = branched_on forward_marks ahead l last a c.make_branch.ensures.does forward;
+      backward = branched_on backward_marks back l last a c.make_branch.ensures.does backward;
     }
 
 pub returns-in-Keep : goal.returns-in-Keep
 returns-in-Keep g c =
     let l = life g.G.Goal.means c.args.self.now in
-    let last = life g.G.Goal.means c.make-keep.new.self in
+    let last = life g.G.Goal.means c.make_keep.new.self in
     let forward = c.args.forward.now in
     let backward = c.args.backward.now in
-    let a = reply_of c.make-keep.result in
+    let a = reply_of c.make_keep.result in
     let C : Call → Type 0 = λ x. Called l (asked (length forward) (length backward) x) last a in
     record {
-      does = subst C (sym c.in-Keep.is) c.make-keep.ensures.does;
-      goal = c.make-keep.ensures.goal;
-      forward = kept_on forward_marks ahead l last c.in-Keep.number a c.make-keep.ensures.does forward;
-      backward = kept_on backward_marks back l last c.in-Keep.number a c.make-keep.ensures.does backward;
+      does = subst C (sym c.in-Keep.is) c.make_keep.ensures.does;
+      goal = c.make_keep.ensures.goal;
+      forward = kept_on forward_marks ahead l last c.in-Keep.number a c.make_keep.ensures.does forward;
+      backward = kept_on backward_marks back l last c.in-Keep.number a c.make_keep.ensures.does backward;
     }

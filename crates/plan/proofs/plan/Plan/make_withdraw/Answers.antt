@@ -18,5 +18,5 @@ returns g c =
     let C : ℕ → Type 0 = λ n. Called (life means p) (withdraw n (length (take c.min-f.result forward)) (length (take c.min-b.result backward))) (life means q) a in
     let called : C c.args.number = subst C c.of.ensures c.withdraw.ensures.does in
     let made = made_withdraw _ _ _ _ c.min-f.result c.min-b.result (min c.args.cells.0 (length forward)) (min c.args.cells.1 (length backward)) forward backward _ _ c.args.number
-    called (omega (arith, c.min-f.ensures)) (omega (arith, c.min-b.ensures)) c.min-f.ensures c.min-b.ensures c.reply-of-branch.ensures (whole means p) (whole means q) c.withdraw.ensures.forward c.withdraw.ensures.backward in
+    called (omega (arith, c.min-f.ensures)) (omega (arith, c.min-b.ensures)) c.min-f.ensures c.min-b.ensures c.reply_of_branch.ensures (whole means p) (whole means q) c.withdraw.ensures.forward c.withdraw.ensures.backward in
     record { does = made.does; goal = c.withdraw.ensures.goal; forward = made.ahead_on; backward = made.back_on }

@@ -15,12 +15,12 @@ use Rattle.marking.proofs.Striking.{sets_some}
 use Rattle.meaning.proofs.PlanSettling.{settled_now}
 use Rattle.plan.proofs.plan.Plan.settle.Goals as goal
 
-pub invariant-of-self : goal.invariant-of-self
-invariant-of-self g c =
+pub invariant_of-self : goal.invariant_of-self
+invariant_of-self g c =
     let cs = c.args.case.now in
     let ks = c.kinds-kinds.result.now in
     let next = c.in-Some.next in
-    let allowed = c.allowed-sets-allowed.result in
+    let allowed = c.allowed_sets-allowed.result in
     let long : length next ≡ 32 = search rules in
     let same : length ks ≡ cs.many = ap length c.kinds-kinds.ensures ∙ long_take cs.many cs.kinds (omega (arith, cs.few, cs.whole)) in
     let wide : length allowed ≡ 32 = search rules in
@@ -37,7 +37,7 @@ returns-in-Some g c =
     let kinds = c.args.case.now.kinds in
     let ks = c.kinds-kinds.result.now in
     let next = c.in-Some.next in
-    let allowed = c.allowed-sets-allowed.result in
+    let allowed = c.allowed_sets-allowed.result in
     let f = length c.args.forward.now in
     let b = length c.args.backward.now in
     -- the kinds that were read are those of the case
@@ -46,14 +46,14 @@ returns-in-Some g c =
     let same : length ks ≡ n = ap length are ∙ long in
     let some : 0 < n = omega arith in
     let Short : List Kind → Type 0 = λ xs. short (problem t xs) f b ≡ false in
-    let room : Short (take n kinds) = subst Short are (sym c.is-short.ensures ∙ c.if-is-short.false) in
-    let sets : take n allowed ≡ map (λ k. k.allowed) (take n kinds) = ap (λ k. take k allowed) (sym same) ∙ c.allowed-sets-allowed.ensures ∙ ap (map (λ k. k.allowed)) are in
+    let room : Short (take n kinds) = subst Short are (sym c.is_short.ensures ∙ c.if-is_short.false) in
+    let sets : take n allowed ≡ map (λ k. k.allowed) (take n kinds) = ap (λ k. take k allowed) (sym same) ∙ c.allowed_sets-allowed.ensures ∙ ap (map (λ k. k.allowed)) are in
     let Found : List Kind → Type 0 = λ xs. Pruned (fits t.admits (parts xs (take (length xs) allowed))) (length xs) (Some next) in
     let FoundTo : ℕ → Type 0 = λ k. Pruned (fits t.admits (parts (take n kinds) (take k allowed))) (length (take n kinds)) (Some next) in
     let found : FoundTo n = subst FoundTo long (subst Found are c.in-Some.ensures.answer) in
     record {
-      does = settled_now t old.case.many n kinds old.case.kinds next allowed old.standing old.noted old.opened f b c.held-in-all.result
-          (eqb-true old.case.many 0 (sym c.if-not-is-blank.ensures)) some long room sets found (c.held-in-all.ensures ∙ ap (λ k. held_in_all (take k next)) same);
+      does = settled_now t old.case.many n kinds old.case.kinds next allowed old.standing old.noted old.opened f b c.held_in_all.result
+          (eqb-true old.case.many 0 (sym c.if-not-is_blank.ensures)) some long room sets found (c.held_in_all.ensures ∙ ap (λ k. held_in_all (take k next)) same);
       goal = refl;
       forward = c.in-Some.ensures.forward
           ∙ ap (λ xs. over (tallies yes_no (parts xs (take (length xs) next)) w) c.args.forward.now) are

@@ -13,12 +13,12 @@ loop-i-preserved g c plain ok =
     let took = g.W.Write.write_str_gives in
     let xs = c.args.self.now.0.now in
     let i = c.loop-i.i in
-    let x = c.loop-i.invariant plain (c.write-count-so-far.ensures.ok ok) in
-    let y = c.write-count-so-far.ensures.prints x.plain ok in
+    let x = c.loop-i.invariant plain (c.write_count-so_far.ensures.ok ok) in
+    let y = c.write_count-so_far.ensures.prints x.plain ok in
     let e = ap (λ (n : ℕ). spaced (n ∷ [])) c.from.ensures in
-    put_is took c.args.f.now _ (spaced (take (c.loop-i.i + 1) xs)) c.write-count-so-far.new.f (load_more xs i c.loop-i-test.true)
-    (put_more took c.args.f.now (spaced (take i xs)) c.loop-i.f (spaced (get_or xs i 0 ∷ [])) c.write-count-so-far.new.f x
-    (put_is took c.loop-i.f _ _ c.write-count-so-far.new.f e y))
+    put_is took c.args.f.now _ (spaced (take (c.loop-i.i + 1) xs)) c.write_count-so_far.new.f (load_more xs i c.loop-i-test.true)
+    (put_more took c.args.f.now (spaced (take i xs)) c.loop-i.f (spaced (get_or xs i 0 ∷ [])) c.write_count-so_far.new.f x
+    (put_is took c.loop-i.f _ _ c.write_count-so_far.new.f e y))
 
 pub returns-clause-writes : goal.returns-clause-writes
 returns-clause-writes g c plain ok =

@@ -14,10 +14,10 @@ loop-count-preserved g c plain ok =
     let took = g.W.Write.write_str_gives in
     let set = c.args.self.now.0 in
     let d = c.loop-count.count in
-    let x = c.loop-count.invariant plain (c.write-member-so-far.ensures.ok ok) in
-    let y = c.write-member-so-far.ensures.prints x.plain ok in
-    put_is took c.args.f.now _ _ c.write-member-so-far.new.f (set_more set d)
-    (put_more took c.args.f.now (spaced (filter (has set) (range_with_len 0 d))) c.loop-count.f (spaced (cond (has set d) (d ∷ []) [])) c.write-member-so-far.new.f x y)
+    let x = c.loop-count.invariant plain (c.write_member-so_far.ensures.ok ok) in
+    let y = c.write_member-so_far.ensures.prints x.plain ok in
+    put_is took c.args.f.now _ _ c.write_member-so_far.new.f (set_more set d)
+    (put_more took c.args.f.now (spaced (filter (has set) (range_with_len 0 d))) c.loop-count.f (spaced (cond (has set d) (d ∷ []) [])) c.write_member-so_far.new.f x y)
 
 pub returns-clause-writes : goal.returns-clause-writes
 returns-clause-writes g c plain ok =

@@ -7,4 +7,4 @@ use Rattle.report.proofs.counts.SetCountsDisplay.fmt.Given as goal
 
 -- the counts passed are written where they are in the set
 abbrev pub invariant-loop-count : goal.invariant-loop-count
-invariant-loop-count g l = WritesOnOk g.W.Write.write_str_gives l.initial.f l.so-far (spaced (filter (has l.set) (range_with_len 0 l.count))) l.f
+invariant-loop-count g l = WritesOnOk g.W.Write.write_str_gives l.initial.f l.so_far (spaced (filter (has l.set) (range_with_len 0 l.count))) l.f

@@ -2,8 +2,8 @@ use Rattle.std.proofs.Common.{◌+◌, ◌*◌, ◌≤◌, length, arith}
 use Rattle.std.proofs.lemmas.Nat.{mul-le}
 use Rattle.search.proofs.marks.Marks.is_closed.Goals as goal
 
-pub is-marked-requires : goal.is-marked-requires
-is-marked-requires c =
+pub is_marked-requires : goal.is_marked-requires
+is_marked-requires c =
     let m = c.args.self.now in
     let w = m.width in
     let n = length m.kinds.now + 1 in

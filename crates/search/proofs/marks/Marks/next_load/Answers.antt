@@ -26,8 +26,8 @@ bounds-load-up g c = omega (arith, c.in-Some.ensures.place, parts_long c.args.se
 pub overflow-add-up : goal.overflow-add-up
 overflow-add-up g c = omega (arith, c.in-Some.ensures.place, parts_long c.args.self.now, c.args.self.now.few)
 
-pub fill-rest-requires : goal.fill-rest-requires
-fill-rest-requires g c =
+pub fill_rest-requires : goal.fill_rest-requires
+fill_rest-requires g c =
     let adm = (g.G.Goal.means c.args.goal.now).admits in
     let m = c.args.self.now in
     let up = c.in-Some.up in
@@ -46,8 +46,8 @@ returns-in-Some g c =
     let load = c.args.load.now in
     let held = held_of adm m c.requires.right in
     let up = c.in-Some.up in
-    let x = c.fill-rest.new.load in
-    let is = raise_next adm m.kinds.now m.sets.now m.width m.cells.now held load c.requires.long up.place up.count up.total x c.in-Some.ensures c.fill-rest.ensures.front c.fill-rest.ensures.rest in
+    let x = c.fill_rest.new.load in
+    let is = raise_next adm m.kinds.now m.sets.now m.width m.cells.now held load c.requires.long up.place up.count up.total x c.in-Some.ensures c.fill_rest.ensures.front c.fill_rest.ensures.rest in
     let gives = next_gives adm m.kinds.now m.sets.now m.width m.cells.now held load c.requires.long x is in
     record {
       next = gives;

@@ -28,11 +28,11 @@ loop-d-preserved c =
     let i = c.raised.i - 1 in
     let d = c.loop-d.d in
     let t = taken_off m given i c.raised.i c.raised.total c.blocks-total.result (omega arith) c.requires (omega arith) c.raised.invariant.2 c.blocks-total.ensures.value in
-    let here : raises_in m given i d ≡ false = ap (λ b. ltb (get_or given i 0) d && closes_in m i b d) (sym t.1) ∙ sym c.can-raise.ensures ∙ c.if-can-raise.false in
+    let here : raises_in m given i d ≡ false = ap (λ b. ltb (get_or given i 0) d && closes_in m i b d) (sym t.1) ∙ sym c.can_raise.ensures ∙ c.if-can_raise.false in
     (c.loop-d.invariant.0, c.loop-d.invariant.1, below_more _ _ c.loop-d.invariant.2 here)
 
-pub returns-then-can-raise : goal.returns-then-can-raise
-returns-then-can-raise c =
+pub returns-then-can_raise : goal.returns-then-can_raise
+returns-then-can_raise c =
     let m = c.args.self.now in
     let given = c.args.load.now in
     let i = c.raised.i - 1 in
@@ -42,8 +42,8 @@ returns-then-can-raise c =
       place = omega (arith, parts_long m);
       count = c.loop-d-test.true;
       stands = c.reach-lead.ensures.leads.stands i (omega arith);
-      total = ap (λ b. b + c.blocks-then-can-raise.result) t.1 ∙ ap (λ v. total_to (parts_in m) given i + v) c.blocks-then-can-raise.ensures.value;
-      raised = ap (λ b. ltb (get_or given i 0) d && closes_in m i b d) (sym t.1) ∙ sym c.can-raise.ensures ∙ c.if-can-raise.true;
+      total = ap (λ b. b + c.blocks-then-can_raise.result) t.1 ∙ ap (λ v. total_to (parts_in m) given i + v) c.blocks-then-can_raise.ensures.value;
+      raised = ap (λ b. ltb (get_or given i 0) d && closes_in m i b d) (sym t.1) ∙ sym c.can_raise.ensures ∙ c.if-can_raise.true;
       least = c.loop-d.invariant.2;
       last = c.loop-d.invariant.1;
     }
