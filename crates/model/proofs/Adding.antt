@@ -1,9 +1,9 @@
 -- A case with one kind more.
-use Rattle.std.proofs.Common.{◌≡◌, ℕ, ◌+◌, ◌<◌, ◌≤◌, Bool, true, false, cond, ◌||◌, eqb, ltb, leb, List, [], ◌∷◌, ◌++◌, map, length, take, set, Some, None, Option, sym, refl, ap, ◌∙◌, ap₂, arith}
+use Rattle.std.proofs.Common.{◌≡◌, ℕ, ◌+◌, ◌<◌, ◌≤◌, Bool, true, false, cond, ◌||◌, eqb, ltb, leb, List, [], ◌∷◌, ◌++◌, length, take, set, Some, None, Option, sym, refl, ap, ◌∙◌, ap₂, arith}
 use Rattle.std.proofs.lemmas.List.{length-map, length-take-le, take_more_set, map_push}
 use Rattle.std.proofs.lemmas.Bool.{leb-false}
 use Rattle.model.specs.declared.case.Case.{Case}
-use Rattle.model.specs.Answers.{Answer, accepted, refused}
+use Rattle.model.specs.Answers.{accepted, refused}
 use Rattle.model.specs.Parts.{Kind, Part, part}
 use Rattle.model.specs.Cases.{kinds_in, allowed_parts, add_refused, adding, added}
 

@@ -1,8 +1,8 @@
 -- Making a list goal.
-use Rattle.std.proofs.Common.{◌≡◌, ℕ, ◌<◌, ◌≤◌, Bool, true, false, cond, not, ◌&&◌, ◌||◌, eqb, ltb, leb, List, length, Some, None, Option, sym, refl, ap, ◌∙◌, subst, inl, inr, arith}
+use Rattle.std.proofs.Common.{◌≡◌, ℕ, ◌<◌, ◌≤◌, Bool, true, false, cond, not, ◌&&◌, ◌||◌, eqb, ltb, leb, List, length, Some, None, sym, refl, ap, ◌∙◌, inl, inr, arith}
 use Rattle.std.proofs.lemmas.Bool.{lt-ltb, le-ltb, le-leb, lt-leb, leb-true, cases_lt, and_parts, not-true, eqb-false, true≢false, false≢true}
 use Rattle.model.specs.Answers.{accepted, refused}
-use Rattle.model.specs.Goals.{last_of, ends_low, rising, rising_made, one_of, bad_list, list_made}
+use Rattle.model.specs.Goals.{last_of, ends_low, rising, rising_made, one_of, list_made}
 
 -- what a test kept, it passed
 kept : (t : Bool) (ts us : List ℕ) → cond t None (Some ts) ≡ Some us → (t ≡ false) × (ts ≡ us)

@@ -1,5 +1,5 @@
 -- Membership and filters.
-use Rattle.std.proofs.Common.{◌≡◌, ℕ, zero, suc, ◌+◌, ◌<◌, ◌≤◌, Bool, true, false, cond, ◌⊎◌, List, [], ◌∷◌, ◌++◌, map, length, get_or, filter, sym, refl, ap, ◌∙◌, subst, inl, inr, arith}
+use Rattle.std.proofs.Common.{◌≡◌, ℕ, zero, suc, ◌+◌, ◌<◌, ◌≤◌, Bool, true, false, cond, ◌⊎◌, List, [], ◌∷◌, ◌++◌, map, length, get_or, filter, sym, ap, subst, inl, inr, arith}
 use Rattle.std.specs.List.{range_with_len, flat_map, AllByRecursion as All}
 use Rattle.std.proofs.lemmas.Bool.{cases_eq}
 

@@ -2,7 +2,7 @@
 ghost use Rattle.std.specs.Prelude.{◌≡◌, ◌≤◌};
 ghost use Rattle.model.specs.Answers.{outcome_as};
 ghost use Rattle.model.specs.Goals.{band_made, between};
-ghost use Rattle.std.proofs.Common.{rules, arith};
+ghost use Rattle.std.proofs.Common.{rules};
 
 use crate::goal::Goal;
 use crate::limits::MOST_TOTAL;
@@ -45,9 +45,9 @@ impl Band {
 impl Goal for Band {
     ghost means = { λ s. between s.low s.high };
 
-    ghost bounded = { first_of (Prim.search rules, Prim.grind (arith, Self.row.coded.inj)) };
+    ghost bounded = { Prim.search rules };
 
-    ghost low = { first_of (Prim.search rules, Prim.grind (arith, Self.row.coded.inj)) };
+    ghost low = { Prim.search rules };
 
     fn top(&self) -> u64 {
         Band::high(self)

@@ -3,7 +3,7 @@ ghost use Rattle.std.specs.Prelude.{◌≡◌, ◌<◌, ◌≤◌, take};
 ghost use Rattle.model.specs.Answers.{outcome_as};
 ghost use Rattle.model.specs.Goals.{ends_low, last_of, list_made, one_of};
 ghost use Rattle.model.specs.Rises.{in_below_last};
-ghost use Rattle.std.proofs.Common.{rules, arith};
+ghost use Rattle.std.proofs.Common.{rules};
 
 use crate::goal::Goal;
 use crate::goal::rising::RisingTotals;
@@ -54,7 +54,7 @@ impl Goal for TotalList {
 
     ghost bounded = { λ g b i. in_below_last (take g.listed.many g.listed.totals) b g.listed.rises i };
 
-    ghost low = { first_of (Prim.search rules, Prim.grind (arith, Self.row.coded.inj)) };
+    ghost low = { Prim.search rules };
 
     fn top(&self) -> u64 {
         match self.listed.last() {

@@ -2,7 +2,7 @@
 ghost use Rattle.std.specs.Prelude.{◌≡◌, ◌<◌};
 ghost use Rattle.model.specs.Answers.{outcome_back, GivenBack};
 ghost use Rattle.model.specs.Goals.{stride_made, strided};
-ghost use Rattle.std.proofs.Common.{rules, arith};
+ghost use Rattle.std.proofs.Common.{rules};
 
 use crate::goal::Goal;
 use crate::limits::MOST_MODULUS;
@@ -58,9 +58,9 @@ impl<G: Goal> Stride<G> {
 impl<G: Goal> Goal for Stride<G> {
     ghost means = { λ s. strided s.modulus s.remainder (G.Goal.means s.below) };
 
-    ghost bounded = { first_of (Prim.search rules, Prim.grind (arith, Self.row.coded.inj)) };
+    ghost bounded = { Prim.search rules };
 
-    ghost low = { first_of (Prim.search rules, Prim.grind (arith, Self.row.coded.inj)) };
+    ghost low = { Prim.search rules };
 
     fn top(&self) -> u64 {
         self.below.top()

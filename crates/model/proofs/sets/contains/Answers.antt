@@ -1,7 +1,6 @@
-use Rattle.std.proofs.Common.{◌≡◌, ◌*◌, ◌/◌, ◌^◌, ◌<◌, false, eqb, ltb, sym, ap, ◌∙◌, arith, rules}
+use Rattle.std.proofs.Common.{◌/◌, ◌^◌, sym, ◌∙◌, arith, rules}
 use Rattle.std.proofs.lemmas.Nat.{and_mask}
 use Rattle.std.proofs.lemmas.Bool.{le-ltb}
-use Rattle.model.specs.Sets.{has}
 use Rattle.model.proofs.Bits.{has_past}
 use Rattle.model.proofs.sets.contains.Goals as goal
 

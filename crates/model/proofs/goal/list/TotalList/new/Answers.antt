@@ -1,4 +1,4 @@
-use Rattle.std.proofs.Common.{◌≡◌, ◌<◌, take, sym, arith, rules}
+use Rattle.std.proofs.Common.{◌<◌, take, sym, arith, rules}
 use Rattle.std.proofs.lemmas.List.{length-take-le}
 use Rattle.model.proofs.Listing.{list_unfit, list_ends_high, list_made_lem, ends_low_lem}
 use Rattle.model.proofs.goal.list.TotalList.new.Goals as goal
@@ -17,7 +17,7 @@ invariant_of-result c =
     let two = ends_low_lem us (sym c.if-not-ends_low.ensures) in
     let long = length-take-le c.in-Some.listed.many c.in-Some.listed.totals c.in-Some.listed.few in
     let some : 0 < c.in-Some.listed.many = omega (arith, two.0) in
-    (some, (two.1, tt))
+    record { some = some; small = two.1 }
 
 pub returns : goal.returns
 returns c =
