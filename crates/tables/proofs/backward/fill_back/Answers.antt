@@ -12,8 +12,8 @@ loop-i-init g c =
     let ss = c.args.sets.now in
     (omega arith, back_none (yes_no) _ (parts ks ss) c.args.width (length ks) _ _ (length_parts ks ss c.requires.ready.same) c.requires.asked (λ k h. refl))
 
-pub overflow-mul-i : goal.overflow-mul-i
-overflow-mul-i g c = omega (arith, mul-le (c.loop-i.i - 1) c.args.width (length c.args.kinds.now + 1) c.args.width (omega arith) (omega arith))
+pub overflow_mul-i : goal.overflow_mul-i
+overflow_mul-i g c = omega (arith, mul-le (c.loop-i.i - 1) c.args.width (length c.args.kinds.now + 1) c.args.width (omega arith) (omega arith))
 
 pub fill_row_back-requires : goal.fill_row_back-requires
 fill_row_back-requires g c = omega (arith, c.requires.ready.room, mul-le (c.loop-i.i - 1 + 2) c.args.width (length c.args.kinds.now + 1) c.args.width (omega arith) (omega arith))

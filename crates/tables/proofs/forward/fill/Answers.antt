@@ -8,8 +8,8 @@ use Rattle.tables.proofs.forward.fill.Goals as goal
 pub loop-i-init : goal.loop-i-init
 loop-i-init g c = fill_none g.M.Measure.means _ c.args.width _ _ c.fill_first_row.ensures.row (λ k h. refl)
 
-pub overflow-mul-i : goal.overflow-mul-i
-overflow-mul-i g c = omega (arith, mul-le c.loop-i.i c.args.width (length c.args.kinds.now + 1) c.args.width (omega arith) (omega arith))
+pub overflow_mul-i : goal.overflow_mul-i
+overflow_mul-i g c = omega (arith, mul-le c.loop-i.i c.args.width (length c.args.kinds.now + 1) c.args.width (omega arith) (omega arith))
 
 pub fill_row-requires : goal.fill_row-requires
 fill_row-requires g c = omega (arith, mul-le (c.loop-i.i + 2) c.args.width (length c.args.kinds.now + 1) c.args.width (omega arith) (omega arith))

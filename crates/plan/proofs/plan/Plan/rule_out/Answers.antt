@@ -122,8 +122,8 @@ invariant_of-self-in-Some g c =
     let wide : length next ≡ 32 = search rules in
     (wide, (p.deep, (inside_less n standing next p.noted p.opened less.0 less.1 p.inside, tt)))
 
-pub overflow-sub-result : goal.overflow-sub-result
-overflow-sub-result g c =
+pub overflow_sub-result : goal.overflow_sub-result
+overflow_sub-result g c =
     let p = c.args.self.now in
     let n = p.case.many in
     let kinds = p.case.kinds in

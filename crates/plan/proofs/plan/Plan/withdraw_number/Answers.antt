@@ -58,8 +58,8 @@ invariant_of-self-2 g c =
     let less : m < p.opened = omega (arith, c.one_fewer-at.ensures) in
     (c.noted_by-row.ensures.long, (omega (arith, p.deep), (Branching.inside_back p.case.many p.standing c.noted_by-row.result p.noted p.opened m less c.noted_by-row.ensures.same p.inside, tt)))
 
-pub overflow-sub-result : goal.overflow-sub-result
-overflow-sub-result g c =
+pub overflow_sub-result : goal.overflow_sub-result
+overflow_sub-result g c =
     let p = c.args.self.now in
     let n = p.case.many in
     let kinds = p.case.kinds in

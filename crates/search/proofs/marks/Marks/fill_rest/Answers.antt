@@ -16,7 +16,11 @@ least_count-d-requires g c =
     let b = c.loop-i.b in
     let held = held_of adm m c.requires.right in
     let low : b < m.width = closes_low adm m.kinds.now m.sets.now m.width m.cells.now held (drop i (parts_in m)) b c.loop-i.invariant.closes in
-    (omega arith, omega (arith, low, m.wide), some_closes adm m.kinds.now m.sets.now m.width m.cells.now held i (omega arith) (part_in m i) b refl c.loop-i.invariant.closes)
+    record {
+      i_bound = omega arith;
+      b_bound = omega (arith, low, m.wide);
+      by_index = some_closes adm m.kinds.now m.sets.now m.width m.cells.now held i (omega arith) (part_in m i) b refl c.loop-i.invariant.closes;
+    }
 
 pub loop-i-preserved : goal.loop-i-preserved
 loop-i-preserved g c =

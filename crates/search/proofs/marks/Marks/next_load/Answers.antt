@@ -23,8 +23,8 @@ returns-in-None g c =
 pub bounds-load-up : goal.bounds-load-up
 bounds-load-up g c = omega (arith, c.in-Some.ensures.place, parts_long c.args.self.now, c.requires.long)
 
-pub overflow-add-up : goal.overflow-add-up
-overflow-add-up g c = omega (arith, c.in-Some.ensures.place, parts_long c.args.self.now, c.args.self.now.few)
+pub overflow_add-up : goal.overflow_add-up
+overflow_add-up g c = omega (arith, c.in-Some.ensures.place, parts_long c.args.self.now, c.args.self.now.few)
 
 pub fill_rest-requires : goal.fill_rest-requires
 fill_rest-requires g c =

@@ -5,8 +5,8 @@ use Rattle.search.proofs.Read.{parts_long, taken_off}
 use Rattle.search.specs.Seen.{closes_in, part_in, parts_in, raises_in}
 use Rattle.search.proofs.marks.Marks.raise.Goals as goal
 
-pub overflow-sub-total : goal.overflow-sub-total
-overflow-sub-total c =
+pub overflow_sub-total : goal.overflow_sub-total
+overflow_sub-total c =
     (taken_off c.args.self.now c.args.load.now (c.raised.i - 1) c.raised.i c.raised.total c.blocks-total.result (omega arith) c.requires (omega arith) c.raised.invariant.2 c.blocks-total.ensures.value).0
 
 pub raised-preserved : goal.raised-preserved
