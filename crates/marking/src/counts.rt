@@ -46,8 +46,8 @@ pub fn is_kind(number: u64, many: usize) -> bool
 
 // The set without a count that it holds.
 fn without(set: u64, count: u64) -> u64
-    requires count_bound { count < 64 }
-    requires count_value { has set count ≡ true }
+    requires small { count < 64 }
+    requires stands { has set count ≡ true }
     ensures { result ≡ struck set count }
 {
     set ^ (1u64 << count)
@@ -55,9 +55,9 @@ fn without(set: u64, count: u64) -> u64
 
 // The sets, with a count that stands struck.
 pub fn strike_count(sets: &[u64; 32], at: usize, count: u64) -> [u64; 32]
-    requires at_bound { at < 32 }
-    requires count_bound { count < 64 }
-    requires count_value { has (slice_index sets.now at) count ≡ true }
+    requires kind { at < 32 }
+    requires small { count < 64 }
+    requires stands { has (slice_index sets.now at) count ≡ true }
     ensures { result ≡ strike sets.now at count }
 {
     let mut left = *sets;

@@ -83,9 +83,9 @@ impl<'a> Marks<'a> {
 
     // Whether the count d of the kind at i stands and, put onto the total b, can be closed by the kinds after it.
     fn can_close(&self, i: usize, b: usize, d: u8) -> bool
-        requires i_bound { i < kinds_in self.now }
-        requires b_bound { b < 4294967296 }
-        requires d_bound { d < 64 }
+        requires kind { i < kinds_in self.now }
+        requires total { b < 4294967296 }
+        requires count { d < 64 }
         ensures { result ≡ closes_in self.now i b d }
     {
         self.stands(i, d) && self.is_closed(i + 1, b + self.blocks(i, d))
@@ -93,9 +93,9 @@ impl<'a> Marks<'a> {
 
     // Whether the count given for the kind at i can be raised to d.
     fn can_raise(&self, i: usize, b: usize, given: u8, d: u8) -> bool
-        requires i_bound { i < kinds_in self.now }
-        requires b_bound { b < 4294967296 }
-        requires d_bound { d < 64 }
+        requires kind { i < kinds_in self.now }
+        requires total { b < 4294967296 }
+        requires count { d < 64 }
         ensures { result ≡ (nat_lt given d && closes_in self.now i b d) }
     {
         given < d && self.can_close(i, b, d)
@@ -103,9 +103,9 @@ impl<'a> Marks<'a> {
 
     // The least count that can be closed, where there is one.
     fn least_count(&self, i: usize, b: usize) -> u8
-        requires i_bound { i < kinds_in self.now }
-        requires b_bound { b < 4294967296 }
-        requires by_index { (d : ℕ) × ((d < 64) × (closes_in self.now i b d ≡ true)) }
+        requires kind { i < kinds_in self.now }
+        requires total { b < 4294967296 }
+        requires some { (d : ℕ) × ((d < 64) × (closes_in self.now i b d ≡ true)) }
         ensures small { result < 64 }
         ensures closes { closes_in self.now i b result ≡ true }
         ensures least { (e : ℕ) → e < result → closes_in self.now i b e ≡ false }

@@ -11,5 +11,5 @@ returns c =
     let s = c.args.set in
     let d = c.args.count in
     let fits : s < 2 ^ 64 = search rules in
-    ap (bit_xor s) (one_shl d 64 c.requires.0)
-    ∙ is_set_of (bit_xor s (2 ^ d)) (λ e. has s e && not (eqb e d)) (xor_lt 64 s (2 ^ d) fits (pow_below d 64 c.requires.0)) (λ k h. has_without s d k c.requires.1)
+    ap (bit_xor s) (one_shl d 64 c.requires.small)
+    ∙ is_set_of (bit_xor s (2 ^ d)) (λ e. has s e && not (eqb e d)) (xor_lt 64 s (2 ^ d) fits (pow_below d 64 c.requires.small)) (λ k h. has_without s d k c.requires.stands)

@@ -17,9 +17,9 @@ least_count-d-requires g c =
     let held = held_of adm m c.requires.right in
     let low : b < m.width = closes_low adm m.kinds.now m.sets.now m.width m.cells.now held (drop i (parts_in m)) b c.loop-i.invariant.closes in
     record {
-      i_bound = omega arith;
-      b_bound = omega (arith, low, m.wide);
-      by_index = some_closes adm m.kinds.now m.sets.now m.width m.cells.now held i (omega arith) (part_in m i) b refl c.loop-i.invariant.closes;
+      kind = omega arith;
+      total = omega (arith, low, m.wide);
+      some = some_closes adm m.kinds.now m.sets.now m.width m.cells.now held i (omega arith) (part_in m i) b refl c.loop-i.invariant.closes;
     }
 
 pub loop-i-preserved : goal.loop-i-preserved
