@@ -6,7 +6,7 @@ use Rattle.plan.proofs.plan.Plan.blank.Goals as goal
 pub invariant_of-result : goal.invariant_of-result
 invariant_of-result g c =
     let none = no_kinds c.new.result c.new.ensures in
-    (refl, (lit≤ tt, (inside_none c.new.result.many (replicate 32 0) (replicate 8 (replicate 32 0)) (λ j h. absurd (omega arith)), tt)))
+    record { full = refl; deep = lit≤ tt; inside = inside_none c.new.result.many (replicate 32 0) (replicate 8 (replicate 32 0)) (λ j h. absurd (omega arith)) }
 
 pub returns : goal.returns
 returns g c =

@@ -27,7 +27,7 @@ invariant_of-self g c =
     let long : length p.noted ≡ 8 = search rules in
     let few : p.opened < 8 = leb-false 8 p.opened (sym c.is_full.ensures ∙ c.if-is_full.false) in
     let In : List (List ℕ) → Type 0 = λ rows. ∥ Inside p.case.many p.standing rows (p.opened + 1) ∥₁ in
-    (p.full, (omega arith, (subst In (sym c.note.ensures) (Branching.inside_more p.case.many p.standing p.noted p.opened (omega arith) p.inside), tt)))
+    record { full = p.full; deep = omega arith; inside = subst In (sym c.note.ensures) (Branching.inside_more p.case.many p.standing p.noted p.opened (omega arith) p.inside) }
 
 pub returns : goal.returns
 returns g c =

@@ -25,7 +25,7 @@ invariant_of-self g c =
     let p = c.args.self.now in
     let m = c.one_fewer-self.result in
     let less : m ≤ p.opened = omega (arith, c.one_fewer-self.ensures) in
-    (p.full, (omega arith, (Branching.inside_fewer p.case.many p.standing p.noted p.opened m less p.inside, tt)))
+    record { full = p.full; deep = omega arith; inside = Branching.inside_fewer p.case.many p.standing p.noted p.opened m less p.inside }
 
 pub returns : goal.returns
 returns g c =

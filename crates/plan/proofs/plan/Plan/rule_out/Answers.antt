@@ -120,7 +120,7 @@ invariant_of-self-in-Some g c =
     let To : ℕ → Type 0 = λ m. Smaller m standing (Some next) in
     let less : To n = subst To same c.in-Some.ensures.smaller in
     let wide : length next ≡ 32 = search rules in
-    (wide, (p.deep, (inside_less n standing next p.noted p.opened less.0 less.1 p.inside, tt)))
+    record { full = wide; deep = p.deep; inside = inside_less n standing next p.noted p.opened less.0 less.1 p.inside }
 
 pub overflow_sub-result : goal.overflow_sub-result
 overflow_sub-result g c =

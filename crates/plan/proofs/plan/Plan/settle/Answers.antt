@@ -26,7 +26,7 @@ invariant_of-self g c =
     let wide : length allowed ≡ 32 = search rules in
     let sets : length (take (length ks) allowed) ≡ length ks = long_take (length ks) allowed (omega (arith, cs.few)) in
     let some = sets_some (g.G.Goal.means c.args.self.now.goal).admits ks (take (length ks) allowed) next sets c.in-Some.ensures.answer in
-    (long, (lit≤ tt, (inside_none cs.many next c.args.self.now.noted (λ j h. some j (omega arith)), tt)))
+    record { full = long; deep = lit≤ tt; inside = inside_none cs.many next c.args.self.now.noted (λ j h. some j (omega arith)) }
 
 pub returns-in-Some : goal.returns-in-Some
 returns-in-Some g c =

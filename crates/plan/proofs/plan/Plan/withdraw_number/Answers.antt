@@ -56,7 +56,7 @@ invariant_of-self-2 g c =
     let is : c.args.number ≡ p.opened = at.1 in
     let m = c.one_fewer-at.result in
     let less : m < p.opened = omega (arith, c.one_fewer-at.ensures) in
-    (c.noted_by-row.ensures.long, (omega (arith, p.deep), (Branching.inside_back p.case.many p.standing c.noted_by-row.result p.noted p.opened m less c.noted_by-row.ensures.same p.inside, tt)))
+    record { full = c.noted_by-row.ensures.long; deep = omega (arith, p.deep); inside = Branching.inside_back p.case.many p.standing c.noted_by-row.result p.noted p.opened m less c.noted_by-row.ensures.same p.inside }
 
 pub overflow_sub-result : goal.overflow_sub-result
 overflow_sub-result g c =
