@@ -10,14 +10,14 @@ ghost use Rattle.branch_use.specs.Opened.{IsOpened};
 use model::case::Case;
 use model::goal::Goal;
 use model::goal::band::Band;
-use model::refusal::Refusal;
+use model::refusal::{HandedBack, Refusal};
 use plan::branch::Branch;
 use plan::plan::Plan;
 use std::io;
 
 // Opens a branch, which is then the latest.
 fn open<G: Goal + Drop>(plan: &mut Plan<G>) -> Result<Branch, Refusal>
-    ensures { IsOpened (open_in (life G.Goal.means plan.new)) result }
+    ensures { IsOpened (open_in (life G.Goal.means plan.old)) (open_in (life G.Goal.means plan.new)) result }
 {
     plan.branch()
 }
@@ -31,7 +31,7 @@ fn keep_latest<G: Goal + Drop>(plan: &mut Plan<G>, branch: Branch) -> u32
 {
     match plan.keep(branch) {
         Ok(open) => open,
-        Err(_) => unreachable(),
+        Err(_) => unreachable!(),
     }
 }
 
@@ -74,25 +74,33 @@ fn open_two(plan: &mut Plan<Band>) -> Result<u32, Refusal> {
     Ok(left.max(then_left))
 }
 
+// Gives back a branch although a later one is open: that is refused, nothing changes, and the branch is handed back with the refusal.
+fn keep_not_latest<G: Goal + Drop>(plan: &mut Plan<G>, branch: Branch) -> HandedBack<Branch>
+    requires { open_in (life G.Goal.means plan.old) ≡ branch.number + 1 }
+    ensures back { result.given ≡ branch }
+    ensures left { open_in (life G.Goal.means plan.new) ≡ open_in (life G.Goal.means plan.old) }
+{
+    match plan.keep(branch) {
+        Ok(_) => unreachable!(),
+        Err(back) => back,
+    }
+}
+
 // Opens two branches and gives back the older first: that is refused, and hands the older back, which can be kept once the later is. Answers
 // the number of the refusal, and how many branches are open in the end.
 fn keep_older_first<G: Goal + Drop>(plan: &mut Plan<G>) -> Result<(u8, u32), Refusal> {
     let older = open(plan)?;
-    let later = match plan.branch() {
+    let later = match open(plan) {
         Ok(branch) => branch,
         Err(refusal) => {
             keep_latest(plan, older);
             return Err(refusal);
         }
     };
-    match plan.keep(older) {
-        Ok(_) => unreachable(),
-        Err(back) => {
-            let number = back.refusal().number();
-            keep_latest(plan, later);
-            Ok((number, keep_latest(plan, back.given())))
-        }
-    }
+    let back = keep_not_latest(plan, older);
+    let number = back.refusal().number();
+    keep_latest(plan, later);
+    Ok((number, keep_latest(plan, back.given())))
 }
 
 // Four kinds, of which a load takes each at most once.

@@ -3,10 +3,10 @@ use Rattle.fields.specs.Reading.{totals}
 use Rattle.reader.proofs.Totals.{halved, too_many}
 use Rattle.reader.proofs.naming.list_of.Goals as goal
 
-pub returns-then-many-gt-MOST-LISTED : goal.returns-then-many-gt-MOST-LISTED
-returns-then-many-gt-MOST-LISTED c =
+pub returns-then-many-gt-MOST_LISTED : goal.returns-then-many-gt-MOST_LISTED
+returns-then-many-gt-MOST_LISTED c =
     let bs = c.args.part.now in
-    too_many (totals bs) (omega (arith, halved bs, c.if-many-gt-MOST-LISTED.true))
+    too_many (totals bs) (omega (arith, halved bs, c.if-many-gt-MOST_LISTED.true))
 
 pub returns-in-Ok : goal.returns-in-Ok
 returns-in-Ok c =
