@@ -109,8 +109,8 @@ returns-in_err-phase c =
     subst (λ (b : List ℕ). first (drop p b) ≡ got (said f) (drop after b)) l.invariant.0 nx.0 in
     let e : turn desk l.phase p (said f) s log ≡ stops (told x) t log' =
     subst (λ (q : ℕ). turn desk l.phase q (said f) s log ≡ stops (told x) t log') c.place-place.ensures c.in_err-phase.ensures in
-    let r = err_from_is_err_and c.from-residual-in_err-phase.result c.from-residual-in_err-phase.ensures.1 in
-    let fault : fault_of c.from-residual-in_err-phase.result ≡ Some (told x) = ap fault_of r.1 ∙ ap (λ y. Some (told y)) r.2 in
+    let r = err_from_is_err_and c.from_residual-in_err-phase.result c.from_residual-in_err-phase.ensures.1 in
+    let fault : fault_of c.from_residual-in_err-phase.result ≡ Some (told x) = ap fault_of r.1 ∙ ap (λ y. Some (told y)) r.2 in
     subst (λ (o : Option Fault). Read file c.args.forward.now c.args.backward.now o t log') (sym fault)
     (read file c.args.forward.now c.args.backward.now (Some (told x)) t log' (λ k. (c.type_inv.file k).fits)
     (A.ran_from desk file start _ l.invariant.1
@@ -127,9 +127,9 @@ returns-in_err-field c =
     let x = c.in_err-field.field-0.0 in
     let nx = c.in_err-field.ensures.answer in
     let by : first (drop p file) ≡ bad x.cause = subst (λ (b : List ℕ). first (drop p b) ≡ bad x.cause) l.invariant.0 nx.0 in
-    let r = err_from_is_err_and c.from-residual.result c.from-residual.ensures.1 in
+    let r = err_from_is_err_and c.from_residual.result c.from_residual.ensures.1 in
     let n = cause_number x.cause in
-    let fault : fault_of c.from-residual.result ≡ Some (fault_in_field p n) =
+    let fault : fault_of c.from_residual.result ≡ Some (fault_in_field p n) =
     ap fault_of r.1 ∙ (ap (λ y. Some (told y)) r.2 ∙ ap (λ (q : ℕ). Some (fault_in_field q n)) nx.1) in
     subst (λ (o : Option Fault). Read file c.args.forward.now c.args.backward.now o s log) (sym fault)
     (read file c.args.forward.now c.args.backward.now (Some (fault_in_field p n)) s log (λ k. (c.type_inv.file k).fits)
