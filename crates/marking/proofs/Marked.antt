@@ -1,5 +1,5 @@
 -- What a table holds after one pass, or two.
-use Rattle.std.proofs.Common.{◌≡◌, ℕ, ◌+◌, ◌*◌, ◌<◌, ◌≤◌, Bool, true, List, length, get_or, take, drop, sym, refl, ap, ◌∙◌, subst, ap₂, arith}
+use Rattle.std.proofs.Common.{◌≡◌, ℕ, ◌+◌, ◌*◌, ◌<◌, ◌≤◌, Bool, true, List, length, take, drop, sym, ap, ◌∙◌, subst, ap₂, arith}
 use Rattle.model.specs.declared.kind.Kind.{Kind}
 use Rattle.meaning.specs.Models.{yes_no}
 use Rattle.model.specs.Parts.{parts}

@@ -1,7 +1,7 @@
 -- The recurrence gives the tallies of all choices.
-use Rattle.std.proofs.Common.{◌≡◌, ℕ, zero, suc, ◌+◌, ◌-◌, ◌*◌, ◌<◌, ◌≤◌, Bool, true, false, cond, T, eqb, ltb, leb, ◌⊎◌, List, [], ◌∷◌, ◌++◌, map, length, get_or, take, drop, fold, filter, sym, refl, ap, ◌∙◌, subst, inl, inr, arith}
+use Rattle.std.proofs.Common.{◌≡◌, ℕ, zero, suc, ◌+◌, ◌-◌, ◌*◌, ◌<◌, ◌≤◌, Bool, true, false, cond, T, eqb, ltb, leb, ◌⊎◌, List, [], ◌∷◌, map, length, get_or, take, drop, fold, filter, sym, refl, ap, ◌∙◌, subst, inl, inr, arith}
 use Rattle.std.proofs.lemmas.List.{take_all, drop_all}
-use Rattle.std.specs.List.{range_with_len, flat_map, AllByRecursion as All}
+use Rattle.std.specs.List.{range_with_len, AllByRecursion as All}
 use Rattle.std.proofs.lemmas.Bool.{cases_lt, cases_eq, cond-true, cond-false, le-leb, lt-leb, eq-eqb, ne_eqb, cases_Bool, lt-ltb}
 use Rattle.std.proofs.ByRecursion.{all_kept_by, All-map, All-weaker, All-take, All-drop}
 use Rattle.meaning.specs.Cells.{Holds, over, tallies, tallies_back}
@@ -12,7 +12,7 @@ use Rattle.meaning.specs.Tallies.{chain_of, choices_of, join_of, tally_at, tally
 use Rattle.model.specs.Loads.{choices, total_of}
 use Rattle.model.specs.declared.kind.Kind.{Kind}
 use Rattle.model.specs.Parts.{Part, parts}
-use Rattle.model.specs.Sets.{counts, has, members}
+use Rattle.model.specs.Sets.{members}
 use Rattle.meaning.proofs.Grid.{grid_over, holds_at}
 use Rattle.meaning.proofs.Rows.{cases_le}
 use Rattle.model.proofs.Listed.{all_joined, counting_below, members_below}

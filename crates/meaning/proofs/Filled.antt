@@ -1,13 +1,13 @@
 -- The sets of counts that some loads use are not empty.
-use Rattle.std.proofs.Common.{◌≡◌, ℕ, zero, suc, ◌<◌, ◌≤◌, Bool, true, false, List, [], ◌∷◌, length, get_or, sym, refl, ap, ◌∙◌, subst, inl, inr, arith}
+use Rattle.std.proofs.Common.{◌≡◌, ℕ, zero, suc, ◌<◌, Bool, true, false, List, [], ◌∷◌, length, get_or, sym, refl, ap, ◌∙◌, inl, inr, arith}
 use Rattle.std.proofs.lemmas.List.{length-map}
 use Rattle.std.proofs.lemmas.Bool.{eq-eqb, false≢true, cases_eq}
 use Rattle.model.specs.Loads.{choices, fits, total_of, Within}
 use Rattle.model.specs.Parts.{Part, sets_of}
 use Rattle.model.specs.Sets.{has}
-use Rattle.model.proofs.Lists.{In, all_in}
+use Rattle.model.proofs.Lists.{all_in}
 use Rattle.model.proofs.Listed.{choices_within}
-use Rattle.meaning.specs.Problems.{has_at, is_empty, support, uses}
+use Rattle.meaning.specs.Problems.{has_at, is_empty, support}
 use Rattle.meaning.proofs.Lists.{kept_in, in_some, first_in}
 use Rattle.meaning.proofs.Sets.{has_none}
 use Rattle.meaning.proofs.Standing.{support_has}

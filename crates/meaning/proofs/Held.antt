@@ -1,5 +1,5 @@
 -- How many counts sets hold.
-use Rattle.std.proofs.Common.{◌≡◌, ℕ, zero, suc, pred, ◌+◌, ◌/◌, ◌%◌, ◌^◌, ◌<◌, ◌≤◌, Bool, true, false, cond, List, [], ◌∷◌, map, length, get_or, take, sum_by, filter, sym, refl, ap, ◌∙◌, subst, ap₂, suc-le-suc, zero-le, le_of_eq, not-suc-le-zero, zero-lt-suc, pow-suc, zero-add, add-one, one-add, arith}
+use Rattle.std.proofs.Common.{◌≡◌, ℕ, zero, suc, pred, ◌+◌, ◌<◌, ◌≤◌, Bool, true, false, cond, List, [], ◌∷◌, map, length, get_or, take, sum_by, filter, sym, refl, ap, ◌∙◌, subst, ap₂, suc-le-suc, zero-le, le_of_eq, not-suc-le-zero, zero-lt-suc, arith}
 use lib.Seq.{take-nil}
 use Rattle.std.specs.List.{range_with_len}
 use Rattle.std.proofs.lemmas.List.Sums.{sum_by-cons}

@@ -1,7 +1,6 @@
 -- What the laws of a measure give of joins over lists.
-use Rattle.std.proofs.Common.{◌≡◌, ℕ, Bool, true, false, cond, List, [], ◌∷◌, ◌++◌, map, fold, filter, sym, refl, ap, ◌∙◌}
+use Rattle.std.proofs.Common.{◌≡◌, Bool, true, false, cond, List, [], ◌∷◌, ◌++◌, map, fold, filter, sym, refl, ap, ◌∙◌}
 use Rattle.std.specs.List.{flat_map, AllByRecursion as All}
-use Rattle.std.proofs.ByRecursion.{All-append}
 use Rattle.model.proofs.Listed.{all_joined}
 use Rattle.meaning.specs.Measures.{Laws, Means}
 use Rattle.meaning.specs.Tallies.{join_of}

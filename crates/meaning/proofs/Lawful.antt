@@ -1,9 +1,9 @@
 -- The four measures keep the laws.
-use Rattle.std.proofs.Common.{◌≡◌, ℕ, zero, suc, ◌+◌, ◌*◌, ◌<◌, ◌≤◌, min, max, ◌⊎◌, Some, None, Option, sym, refl, ap, ◌∙◌, inl, inr, add_assoc, mul_assoc, mul_comm, add-mul, mul-le-mul, add_comm, one-mul, mul-zero, zero-mul, mul-one, mul-add, arith}
+use Rattle.std.proofs.Common.{◌≡◌, ℕ, zero, suc, ◌+◌, ◌*◌, ◌<◌, ◌≤◌, Some, None, Option, sym, refl, ap, ◌∙◌, inl, inr, mul_assoc, mul_comm, add-mul, one-mul, mul-zero, zero-mul, mul-one, mul-add, arith}
 use lib.Bits.{bit_and, bit_or}
-use Rattle.std.proofs.lemmas.Nat.{or_lt, mul-le}
+use Rattle.std.proofs.lemmas.Nat.{mul-le}
 use Rattle.std.proofs.lemmas.Bool.{cases_lt}
-use Rattle.meaning.specs.Measures.{Laws, Means}
+use Rattle.meaning.specs.Measures.{Laws}
 use Rattle.meaning.specs.Models.{Price, added, cut, highest, larger, loads, lowest, smaller, yes_no}
 
 -- what holds of 0 and of 1 holds of each v ≤ 1

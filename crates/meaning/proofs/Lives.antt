@@ -1,14 +1,14 @@
 -- Histories: a settle, a list of calls made one by one, and a tally.
-use Rattle.std.proofs.Common.{◌≡◌, ℕ, zero, suc, Bool, true, false, cond, ltb, List, [], ◌∷◌, ◌++◌, map, length, Some, None, Option, sym, refl, ap, ◌∙◌, subst, ap₂, arith}
+use Rattle.std.proofs.Common.{◌≡◌, ℕ, zero, suc, Bool, true, false, cond, ltb, List, [], ◌∷◌, ◌++◌, map, Some, Option, sym, refl, ap, ◌∙◌, subst, ap₂, arith}
 use Rattle.model.specs.declared.kind.Kind.{Kind}
 use Rattle.model.specs.Goals.{Target}
 use Rattle.model.specs.Answers.{Answer, Outcome, accepted, refuse, refused}
 use Rattle.meaning.specs.History.{ByRegister, Ending, History, ends, lived}
-use Rattle.meaning.specs.Life.{Agrees, Life, act, blank, goal_of, life_after, lives, open_in, replies, settles, tallied}
+use Rattle.meaning.specs.Life.{Life, act, blank, goal_of, life_after, lives, open_in, replies, settles, tallied}
 use Rattle.meaning.specs.Measures.{Means}
-use Rattle.meaning.specs.Plan.{Shows, State, does, says, settled, state_after}
+use Rattle.meaning.specs.Plan.{State, does, says, settled, state_after}
 use Rattle.meaning.specs.Problems.{Problem, allowed_sets, fitting, is_empty, needed, problem, short}
-use Rattle.meaning.specs.Register.{Call, after, answers, start}
+use Rattle.meaning.specs.Register.{Call, after, start}
 use Rattle.meaning.specs.View.{life_of}
 use Rattle.meaning.proofs.PlanBranching.{rows_long}
 use Rattle.meaning.proofs.Runs.{agree, run_shows, settled_shows}

@@ -1,15 +1,14 @@
 -- A yes-no tally says whether there is a choice; and a count is used where a forward and a backward mark meet.
-use Rattle.std.proofs.Common.{◌≡◌, ℕ, zero, suc, ◌+◌, ◌-◌, ◌*◌, ◌<◌, ◌≤◌, Bool, true, false, cond, not, eqb, ◌⊎◌, List, [], ◌∷◌, ◌++◌, map, length, get_or, take, drop, Decides, filter, sym, refl, ap, ◌∙◌, subst, inl, inr, zero-add, add-one, arith}
+use Rattle.std.proofs.Common.{◌≡◌, ℕ, zero, suc, ◌+◌, ◌*◌, ◌<◌, ◌≤◌, Bool, true, false, not, eqb, ◌⊎◌, List, [], ◌∷◌, ◌++◌, length, get_or, take, drop, Decides, filter, sym, refl, ap, ◌∙◌, subst, inl, inr, zero-add, add-one, arith}
 use lib.Bits.{bit_and, bit_or}
 use Rattle.std.specs.List.{AllByRecursion as All}
 use Rattle.std.proofs.ByRecursion.{all_kept_by, All-take, All-drop, kept_by_passes}
 use Rattle.std.proofs.lemmas.Bool.{eqb-true, eq-eqb, false≢true}
 use Rattle.meaning.specs.Cells.{Holds, tallies, tallies_back}
 use Rattle.meaning.specs.Marks.{Cheap, Closes, Meets, Reaches, Stands}
-use Rattle.meaning.specs.Measures.{Means}
 use Rattle.meaning.specs.Models.{yes_no}
 use Rattle.meaning.specs.Problems.{has_at, is_empty, uses}
-use Rattle.meaning.specs.Tallies.{chain_of, choices_of, join_of, tally_at, tally_by, tally_past}
+use Rattle.meaning.specs.Tallies.{chain_of, choices_of, tally_at, tally_by, tally_past}
 use Rattle.model.specs.Loads.{fits, total_of}
 use Rattle.model.specs.declared.kind.Kind.{Kind}
 use Rattle.model.specs.Parts.{Part, parts, sets_of}

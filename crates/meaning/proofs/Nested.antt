@@ -1,9 +1,9 @@
 -- The standing sets are not empty, and lie in what the branches noted.
-use Rattle.std.proofs.Common.{◌≡◌, ℕ, zero, suc, ◌+◌, ◌-◌, ◌<◌, ◌≤◌, Bool, true, false, not, ◌&&◌, List, [], ◌∷◌, ◌++◌, length, get_or, take, sym, refl, ap, ◌∙◌, subst}
+use Rattle.std.proofs.Common.{◌≡◌, ℕ, zero, suc, ◌-◌, ◌<◌, ◌≤◌, true, not, List, [], ◌∷◌, length, get_or, take, sym, refl, ap, ◌∙◌, subst}
 use Rattle.std.proofs.lemmas.Bool.{eq-eqb}
 use Rattle.meaning.specs.Claims.{SetsAreSound}
 use Rattle.meaning.specs.Plan.{Lies, Nested, Notes, Shows, State, Supports}
-use Rattle.meaning.specs.Problems.{Problem, allowed_sets, fitting, has_at, is_empty, kinds_of, support, uses}
+use Rattle.meaning.specs.Problems.{Problem, allowed_sets, fitting, has_at, kinds_of, support}
 use Rattle.meaning.specs.Register.{Register, RuleOut, free, loads_of}
 use Rattle.model.specs.Sets.{has, held_in_all}
 use Rattle.model.proofs.Lists.{In, in_kept}

@@ -1,11 +1,11 @@
 -- Branches: the noted rows of a plan, and what branch, keep and withdraw do.
-use Rattle.std.proofs.Common.{◌≡◌, ℕ, zero, suc, ◌+◌, ◌-◌, ◌*◌, ◌<◌, ◌≤◌, min, Bool, true, false, not, ◌||◌, eqb, ltb, leb, ◌≢◌, ◌⊎◌, List, [], ◌∷◌, length, get_or, take, set, sym, refl, ap, ◌∙◌, subst, ap₂, inl, inr, add-one, arith, length-take, get_or-set_other, get_or-set_same}
+use Rattle.std.proofs.Common.{◌≡◌, ℕ, zero, suc, ◌+◌, ◌-◌, ◌<◌, ◌≤◌, true, false, not, eqb, leb, ◌≢◌, ◌⊎◌, List, [], ◌∷◌, length, get_or, take, set, sym, refl, ap, ◌∙◌, subst, ap₂, inl, inr, add-one, arith, get_or-set_other, get_or-set_same}
 use mathlib.Core.Logic.{∥∥₁_map, ∥∥₁_elim}
 use native.Mathlib.Bridge.{le_prop}
 use Rattle.std.proofs.lemmas.Bool.{le-leb, lt-leb, cases_eq, eq-eqb, ne_eqb}
 use Rattle.model.specs.Sets.{has, held_in_all}
 use Rattle.meaning.specs.Problems.{Problem, short}
-use Rattle.model.specs.Answers.{Answer, accepted, refused}
+use Rattle.model.specs.Answers.{accepted, refused}
 use Rattle.meaning.specs.Register.{branch, keep, withdraw}
 use Rattle.meaning.specs.Plan.{State, does, Lies}
 use Rattle.meaning.proofs.Held.{held_take_less}

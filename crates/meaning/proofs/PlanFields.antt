@@ -1,6 +1,5 @@
 -- A plan's life, blank or not, and the tests of a call.
-use Rattle.std.proofs.Common.{◌≡◌, ℕ, zero, suc, ◌+◌, ◌-◌, ◌*◌, ◌<◌, ◌≤◌, min, Bool, true, false, not, ◌||◌, ◌≢◌, ◌⊎◌, List, [], ◌∷◌, length, get_or, take, sym, refl, ap, ◌∙◌, subst, ap₂, inl, inr, arith, length-take}
-use mathlib.Core.Logic.{∥∥₁_map, ∥∥₁_elim}
+use Rattle.std.proofs.Common.{◌≡◌, ℕ, zero, suc, ◌+◌, ◌<◌, Bool, true, false, List, [], ◌∷◌, length, get_or, take, sym, refl, ap, ◌∙◌, subst, arith}
 use Rattle.std.proofs.lemmas.Bool.{true≢false, false≢true}
 use Rattle.model.specs.declared.kind.Kind.{Kind}
 use Rattle.meaning.specs.Models.{yes_no}
@@ -8,12 +7,12 @@ use Rattle.model.specs.Parts.{parts}
 use Rattle.meaning.specs.Cells.{tallies, tallies_back}
 use Rattle.model.specs.Goals.{Target}
 use Rattle.meaning.specs.Problems.{Problem, is_empty}
-use Rattle.meaning.specs.Register.{Register, Call, step}
-use Rattle.model.specs.Answers.{Answer, accepted, refused, refuse}
+use Rattle.meaning.specs.Register.{Call, step}
+use Rattle.model.specs.Answers.{Answer, refused, refuse}
 use Rattle.meaning.specs.Plan.{State, does, Shows}
-use Rattle.meaning.specs.Life.{Life, blank, lives, act, Shown, Follows, Called, forward_marks, backward_marks}
+use Rattle.meaning.specs.Life.{blank, lives, Called, forward_marks, backward_marks}
 use Rattle.meaning.proofs.Steps.{call_shows_lem}
-use Rattle.meaning.specs.View.{rows_back, state_of, problem_of, life_of, Inside}
+use Rattle.meaning.specs.View.{state_of, problem_of, life_of, Inside}
 
 pub refused_is : {S : Type 0} (s : S) (t : Bool) (k : ℕ) (x : S × Answer) → t ≡ true → refuse s t k x ≡ (s, refused k)
 refused_is s true k x e = refl

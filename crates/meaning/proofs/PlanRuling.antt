@@ -1,12 +1,12 @@
 -- A count that is ruled out.
-use Rattle.std.proofs.Common.{◌≡◌, ℕ, zero, suc, ◌+◌, ◌-◌, ◌*◌, ◌<◌, ◌≤◌, Bool, true, false, not, ◌&&◌, leb, List, [], ◌∷◌, length, get_or, take, sym, refl, ap, ◌∙◌, subst, ap₂, arith}
+use Rattle.std.proofs.Common.{◌≡◌, ℕ, ◌-◌, ◌<◌, ◌≤◌, true, false, not, ◌&&◌, leb, List, get_or, take, sym, ap, ◌∙◌, ap₂, arith}
 use mathlib.Core.Logic.{∥∥₁_map}
 use Rattle.std.proofs.lemmas.Bool.{leb-true}
 use Rattle.model.specs.declared.kind.Kind.{Kind}
 use Rattle.model.specs.Sets.{has, held_in_all}
 use Rattle.model.specs.Goals.{Target}
-use Rattle.meaning.specs.Problems.{Problem, kinds_of, fitting, is_empty, without, support, uses, short, in_range}
-use Rattle.model.specs.Answers.{Answer, accepted, refused}
+use Rattle.meaning.specs.Problems.{Problem, kinds_of, fitting, is_empty, without, support, short, in_range}
+use Rattle.model.specs.Answers.{accepted, refused}
 use Rattle.meaning.specs.Register.{rule_out}
 use Rattle.meaning.specs.Plan.{State, does, Lies}
 use Rattle.meaning.proofs.Lists.{and_left, and_right}

@@ -1,18 +1,18 @@
 -- An accepted settle.
-use Rattle.std.proofs.Common.{◌≡◌, ℕ, zero, suc, ◌+◌, ◌-◌, ◌*◌, ◌<◌, ◌≤◌, Bool, true, false, List, [], ◌∷◌, map, length, get_or, take, Some, None, sym, refl, ap, ◌∙◌, subst, ap₂, arith}
+use Rattle.std.proofs.Common.{◌≡◌, ℕ, ◌<◌, false, List, [], map, length, take, Some, sym, ap, ◌∙◌, subst, arith}
 use Rattle.model.specs.declared.kind.Kind.{Kind}
 use Rattle.model.specs.Sets.{held_in_all}
 use Rattle.model.specs.Parts.{parts}
 use Rattle.model.specs.Loads.{fits}
 use Rattle.model.specs.Goals.{Target}
 use Rattle.meaning.specs.Problems.{Problem, problem, kinds_of, allowed_sets, fitting, is_empty, support, short}
-use Rattle.meaning.specs.Register.{Register, start}
-use Rattle.model.specs.Answers.{Answer, accepted, refused}
+use Rattle.meaning.specs.Register.{start}
+use Rattle.model.specs.Answers.{Answer, accepted}
 use Rattle.meaning.specs.Plan.{State, settled, Shows}
 use Rattle.meaning.specs.Used.{Pruned}
-use Rattle.meaning.specs.Life.{Life, blank, lives, settles, Shown, Begins, Settled}
+use Rattle.meaning.specs.Life.{Life, blank, lives, settles, Settled}
 use Rattle.meaning.proofs.Runs.{settled_shows}
-use Rattle.meaning.specs.View.{state_of, problem_of, life_of}
+use Rattle.meaning.specs.View.{state_of, life_of}
 use Rattle.meaning.proofs.PlanFields.{passed, live_is, blank_is, not_empty}
 
 module _ (t : Target) (ks : List Kind) (f b : ℕ) where

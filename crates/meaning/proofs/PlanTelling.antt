@@ -1,5 +1,5 @@
 -- What standing and tally answer.
-use Rattle.std.proofs.Common.{◌≡◌, ℕ, zero, suc, ◌+◌, ◌-◌, ◌*◌, ◌<◌, ◌≤◌, Bool, true, false, cond, ◌&&◌, ltb, leb, List, [], ◌∷◌, length, get_or, take, sym, refl, ap, ◌∙◌, subst, ap₂, arith}
+use Rattle.std.proofs.Common.{◌≡◌, ℕ, zero, suc, ◌+◌, ◌-◌, ◌<◌, ◌≤◌, ◌&&◌, ltb, leb, List, length, get_or, take, sym, ap, ◌∙◌, arith}
 use Rattle.std.proofs.lemmas.List.{get_or-take}
 use Rattle.std.proofs.lemmas.Bool.{le-leb, le-ltb, cond-true, cond-false}
 use Rattle.model.specs.declared.kind.Kind.{Kind}
@@ -9,8 +9,8 @@ use Rattle.meaning.specs.Tallies.{tally_of}
 use Rattle.meaning.specs.Cells.{tallies, over}
 use Rattle.model.specs.Goals.{Target}
 use Rattle.meaning.specs.Problems.{kinds_of, needed}
-use Rattle.model.specs.Answers.{accepted, refused}
-use Rattle.meaning.specs.Life.{Life, Standing, standing_set, UsedBy, Tallied, tallied}
+use Rattle.model.specs.Answers.{accepted}
+use Rattle.meaning.specs.Life.{Standing, Tallied}
 use Rattle.meaning.proofs.Lists.{and_both}
 use Rattle.meaning.proofs.Tallies.{tally_stands, set_stands}
 use Rattle.meaning.specs.View.{state_of, problem_of, life_of}

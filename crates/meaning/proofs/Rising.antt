@@ -1,5 +1,5 @@
 -- The choices rise, so the first of those that pass a test is the one that no other comes before; and the runs.
-use Rattle.std.proofs.Common.{◌≡◌, ℕ, zero, suc, ◌+◌, ◌<◌, ◌≤◌, Bool, true, false, cond, ◌&&◌, ◌||◌, ◌⊎◌, List, [], ◌∷◌, ◌++◌, map, length, Some, None, filter, Option, sym, refl, ap, ◌∙◌, subst, inl, inr, arith}
+use Rattle.std.proofs.Common.{◌≡◌, ℕ, zero, suc, ◌<◌, Bool, true, false, List, [], ◌∷◌, Some, None, filter, Option, sym, refl, ap, ◌∙◌, subst, inl, inr, arith}
 use Rattle.std.specs.List.{AllByRecursion as All, slice_get}
 use Rattle.std.proofs.lemmas.Bool.{both_ways, cond-true, cond-false}
 use Rattle.std.proofs.ByRecursion.{all_kept_by, All-weaker, kept_by_passes}
@@ -11,7 +11,7 @@ use Rattle.model.proofs.Listed.{Rising, choices_rise, choices_within, kept_rises
 use Rattle.model.proofs.Lists.{In, all_both, all_in, in_kept}
 use Rattle.model.proofs.Order.{before_asym, before_itself, order_told}
 use Rattle.model.specs.Loads.{Fits, fits, total_of}
-use Rattle.model.specs.Order.{Precedes, before}
+use Rattle.model.specs.Order.{before}
 use Rattle.model.specs.Parts.{Part, sets_of}
 
 pub loads_rise : (adm : ℕ → Bool) (ps : List Part) → Rising (fits adm ps)

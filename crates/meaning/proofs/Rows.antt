@@ -1,5 +1,5 @@
 -- A row that is filled from left to right, and a cell that is joined count by count.
-use Rattle.std.proofs.Common.{◌≡◌, ℕ, zero, suc, ◌+◌, ◌-◌, ◌*◌, ◌<◌, ◌≤◌, Bool, true, false, cond, eqb, ltb, leb, ◌≢◌, ◌⊎◌, List, [], ◌∷◌, ◌++◌, map, length, get_or, take, drop, set, fold, filter, sym, refl, ap, ◌∙◌, subst, inl, inr, zero-add, arith}
+use Rattle.std.proofs.Common.{◌≡◌, ℕ, zero, suc, ◌+◌, ◌-◌, ◌*◌, ◌<◌, ◌≤◌, Bool, true, false, cond, ltb, leb, ◌≢◌, ◌⊎◌, List, [], ◌∷◌, ◌++◌, map, length, get_or, take, drop, set, filter, sym, refl, ap, ◌∙◌, inl, inr, zero-add, arith}
 use Rattle.std.specs.List.{range_with_len}
 use Rattle.std.proofs.lemmas.List.{get_or-set_same, get_or-set_other, map-id, map-append, append-nil, drop_more, drop_all}
 use Rattle.std.proofs.lemmas.Bool.{cases_eq, cases_Bool, ltb-true}
@@ -8,7 +8,7 @@ use Rattle.std.proofs.lemmas.List.FromFn.{map-range_with_len_more}
 use Rattle.std.proofs.lemmas.List.Sums.{fold_push, fold_more as folded_more}
 use Rattle.std.proofs.lemmas.Nat.{mul-le}
 use Rattle.meaning.specs.Measures.{Means}
-use Rattle.meaning.specs.Recurrence.{FilledFrom, FilledTo, back_of, cell_of, counts_past, counts_to, first_row, last_row, row_after, row_before}
+use Rattle.meaning.specs.Recurrence.{FilledFrom, FilledTo, back_of, cell_of, counts_to, first_row, last_row, row_after, row_before}
 use Rattle.meaning.specs.Tallies.{join_of}
 use Rattle.model.specs.declared.kind.Kind.{Kind}
 use Rattle.model.specs.Parts.{Part, part, parts}

@@ -1,14 +1,14 @@
 -- Any calls after a settle.
-use Rattle.std.proofs.Common.{◌≡◌, ℕ, zero, suc, ◌-◌, ◌<◌, ◌≤◌, Bool, true, false, not, ◌&&◌, eqb, leb, List, [], ◌∷◌, length, get_or, filter, sym, refl, ap, ◌∙◌, subst, ap₂, zero-le, arith}
+use Rattle.std.proofs.Common.{◌≡◌, ℕ, ◌-◌, ◌<◌, ◌≤◌, Bool, true, false, not, ◌&&◌, leb, List, [], ◌∷◌, get_or, filter, sym, refl, ap, ◌∙◌, subst, ap₂, zero-le, arith}
 use Rattle.std.specs.List.{AllByRecursion as All}
 use Rattle.std.proofs.ByRecursion.{All-weaker}
 use Rattle.std.proofs.lemmas.Bool.{true≢false, false≢true, le-leb, eqb-true, eq-eqb}
 use Rattle.meaning.specs.Claims.{GoesOn}
 use Rattle.meaning.specs.Life.{Agrees, OnlyEight, lives}
-use Rattle.meaning.specs.Plan.{Shows, State, Supports, does, says, settled, state_after}
+use Rattle.meaning.specs.Plan.{Shows, State, does, says, settled, state_after}
 use Rattle.meaning.specs.Problems.{Problem, all_use, allowed_sets, fitting, has_at, in_range, is_empty, kinds_of, short, support, uses, without}
-use Rattle.meaning.specs.Register.{Call, Register, RuleOut, after, answers, free, loads_of, rule_out, start, step}
-use Rattle.model.specs.Answers.{Answer, accepted, refuse, refused}
+use Rattle.meaning.specs.Register.{Call, Register, after, answers, loads_of, rule_out, start, step}
+use Rattle.model.specs.Answers.{Answer, accepted, refuse}
 use Rattle.model.specs.Sets.{has}
 use Rattle.meaning.proofs.Lists.{and_both, every_all, all_every}
 use Rattle.meaning.proofs.Standing.{support_has}

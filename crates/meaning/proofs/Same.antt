@@ -1,10 +1,10 @@
 -- Totals and chains of worths do not depend on the standing sets.
-use Rattle.std.proofs.Common.{◌≡◌, ℕ, zero, suc, ◌+◌, ◌*◌, ◌<◌, ◌≤◌, List, [], ◌∷◌, map, length, sym, refl, ap, ◌∙◌, ap₂, arith}
+use Rattle.std.proofs.Common.{◌≡◌, ℕ, ◌+◌, ◌*◌, List, [], ◌∷◌, map, length, refl, ap, ap₂, arith}
 use Rattle.meaning.specs.Measures.{Means}
 use Rattle.meaning.specs.Tallies.{chain_of}
 use Rattle.model.specs.Loads.{total_of}
 use Rattle.model.specs.declared.kind.Kind.{Kind}
-use Rattle.model.specs.Parts.{Part, part, parts}
+use Rattle.model.specs.Parts.{parts}
 
 pub total_same : (ks : List Kind) (ss ts : List ℕ) → length ss ≡ length ks → length ts ≡ length ks → (c : List ℕ) → total_of (parts ks ss) c ≡ total_of (parts ks ts) c
 total_same [] ss ts e f c = refl

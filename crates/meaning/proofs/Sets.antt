@@ -1,7 +1,7 @@
 -- The bits of a set after a count is put in.
-use Rattle.std.proofs.Common.{◌≡◌, ℕ, zero, suc, ◌+◌, ◌-◌, ◌*◌, ◌/◌, ◌%◌, ◌^◌, ◌<◌, ◌≤◌, Bool, true, false, cond, not, ◌&&◌, ◌||◌, eqb, ◌⊎◌, sym, refl, ap, ◌∙◌, inl, inr, one-mul, arith}
-use lib.Bits.{bit_or, bit_xor, or_zero_r, or_shr, or_mod, xor_shr, xor_mod}
-use Rattle.std.proofs.lemmas.Nat.{pow_pos, pow-add, shl-shr, pow_below, div_below, mod_below, one_shl}
+use Rattle.std.proofs.Common.{◌≡◌, ℕ, zero, suc, ◌+◌, ◌-◌, ◌*◌, ◌/◌, ◌%◌, ◌^◌, ◌<◌, Bool, true, false, cond, not, ◌&&◌, ◌||◌, eqb, sym, refl, ap, ◌∙◌, inl, inr, one-mul, arith}
+use lib.Bits.{bit_or, bit_xor, or_shr, or_mod, xor_shr, xor_mod}
+use Rattle.std.proofs.lemmas.Nat.{pow_pos, pow-add, shl-shr, pow_below, div_below, mod_below}
 use Rattle.std.proofs.lemmas.Bool.{cases_order, eq-eqb, ne_eqb, eqb-true}
 use Rattle.model.specs.Sets.{has}
 

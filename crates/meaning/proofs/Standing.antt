@@ -1,16 +1,14 @@
 -- The fitting loads of the counts that some load uses are those loads again, where the loads are those that fit and are free of some rule-outs.
-use Rattle.std.proofs.Common.{◌≡◌, ℕ, zero, suc, ◌+◌, ◌-◌, ◌<◌, ◌≤◌, Bool, true, false, cond, not, ◌&&◌, ◌||◌, eqb, ◌⊎◌, List, [], ◌∷◌, ◌++◌, map, length, get_or, filter, sym, refl, ap, ◌∙◌, subst, ap₂, inl, inr, ⊎_elim, zero-add, arith}
+use Rattle.std.proofs.Common.{◌≡◌, ℕ, ◌-◌, ◌<◌, ◌≤◌, Bool, true, false, not, ◌&&◌, eqb, List, [], ◌∷◌, length, get_or, filter, sym, refl, ap, ◌∙◌, subst, ⊎_elim, zero-add, arith}
 use lib.ListN.{length-map, get_or-eq_default}
-use Rattle.std.specs.List.{range_with_len, AllByRecursion as All}
 use Rattle.std.proofs.lemmas.Bool.{eqb-true, eq-eqb, cases_lt}
 use Rattle.std.proofs.lemmas.List.FromFn.{get_or-map-range_with_len, length-map-range_with_len}
 use Rattle.meaning.specs.Problems.{Problem, allowed_sets, fitting, has_at, is_empty, kinds_of, support, uses}
 use Rattle.meaning.specs.Register.{RuleOut, free, loads_of}
 use Rattle.meaning.specs.Tallies.{choices_of}
-use Rattle.model.specs.Loads.{choices, total_of}
-use Rattle.model.specs.declared.kind.Kind.{Kind}
+use Rattle.model.specs.Loads.{total_of}
 use Rattle.model.specs.Parts.{parts}
-use Rattle.model.specs.Sets.{counts, has, members, set_of}
+use Rattle.model.specs.Sets.{has, set_of}
 use Rattle.meaning.proofs.Same.{total_same}
 use Rattle.model.proofs.Lists.{In, in_kept}
 use Rattle.meaning.proofs.Lists.{same_test, and_left, and_right, and_both, kept_in, kept_same, kept_kept, some_in, in_some, first_in}

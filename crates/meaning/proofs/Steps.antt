@@ -1,15 +1,13 @@
 -- One call: the state after it shows the register after it, and the answers are the same.
-use Rattle.std.proofs.Common.{◌≡◌, ℕ, zero, suc, ◌+◌, ◌-◌, ◌<◌, ◌≤◌, Bool, true, false, cond, not, ◌&&◌, ◌||◌, eqb, leb, ◌⊎◌, List, [], ◌∷◌, ◌++◌, map, length, get_or, take, drop, filter, sym, refl, ap, ◌∙◌, subst, ap₂, inl, inr, ⊎_elim, le_refl, arith, length-append, take-append-drop}
+use Rattle.std.proofs.Common.{◌≡◌, ℕ, suc, ◌+◌, ◌-◌, ◌<◌, ◌≤◌, Bool, true, false, not, ◌&&◌, eqb, leb, List, [], ◌∷◌, ◌++◌, length, get_or, take, drop, sym, refl, ap, ◌∙◌, subst, ap₂, le_refl, arith, length-append, take-append-drop}
 use mathlib.Core.Bool.{and-true, and_assoc}
 use lib.Seq.{take-append-le, take-length}
-use Rattle.std.specs.List.{AllByRecursion as All}
 use Rattle.std.proofs.lemmas.Bool.{true≢false, false≢true, not-false, leb-true, leb-false}
 use Rattle.meaning.specs.Plan.{Notes, Shows, State, Supports, close_keep, close_withdraw, does}
 use Rattle.meaning.specs.Problems.{Problem, all_use, allowed_sets, fitting, has_at, in_range, is_empty, kinds_of, short, support, uses, without}
 use Rattle.meaning.specs.Register.{Call, Register, RuleOut, branch, free, keep, kept, loads_of, rule_out, step, used, withdraw, withdrawn}
-use Rattle.model.specs.Answers.{Answer, accepted, refuse, refused}
+use Rattle.model.specs.Answers.{Answer, accepted, refuse}
 use Rattle.model.specs.Sets.{has, held_in_all}
-use Rattle.model.proofs.Lists.{In}
 use Rattle.meaning.proofs.Lists.{and_left, and_right, kept_same, kept_kept, none_left}
 use Rattle.meaning.proofs.Standing.{support_has, key}
 use Rattle.meaning.proofs.Held.{held_support}

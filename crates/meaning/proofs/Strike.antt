@@ -1,10 +1,9 @@
 -- The fitting loads without a count are the fitting loads of the sets with that count struck.
-use Rattle.std.proofs.Common.{◌≡◌, ℕ, zero, suc, pred, ◌<◌, Bool, true, false, not, ◌&&◌, eqb, List, [], ◌∷◌, length, get_or, set, filter, sym, refl, ap, ◌∙◌, subst, ap₂, suc-le-suc, le_of_suc-le-suc, not-suc-le-zero, zero-lt-suc, length-set}
+use Rattle.std.proofs.Common.{◌≡◌, ℕ, zero, suc, pred, ◌<◌, Bool, not, ◌&&◌, eqb, List, [], ◌∷◌, length, get_or, filter, sym, ap, ◌∙◌, subst, suc-le-suc, le_of_suc-le-suc, not-suc-le-zero, zero-lt-suc, length-set}
 use mathlib.Core.Bool.{and_assoc, and_comm}
 use Rattle.meaning.specs.Problems.{Problem, fitting, has_at, kinds_of, without}
 use Rattle.meaning.specs.Strike.{strike, struck}
-use Rattle.model.specs.Sets.{has, set_of}
-use Rattle.model.proofs.Lists.{In}
+use Rattle.model.specs.Sets.{has}
 use Rattle.meaning.proofs.Lists.{kept_same, kept_kept}
 use Rattle.meaning.proofs.Bits.{has_set_of}
 use Rattle.meaning.proofs.Universe.{universe, within, Of, in_universe}

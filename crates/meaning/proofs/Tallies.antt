@@ -1,11 +1,11 @@
 -- The tally of a plan is the tally of the register's loads; the standing sets hold what those use.
-use Rattle.std.proofs.Common.{◌≡◌, ℕ, ◌-◌, ◌<◌, ◌≤◌, List, [], ◌∷◌, map, length, get_or, sym, refl, ap, ◌∙◌, subst, ap₂}
+use Rattle.std.proofs.Common.{◌≡◌, ℕ, ◌<◌, List, length, get_or, ap, ◌∙◌}
 use Rattle.meaning.specs.Claims.{TallyStands}
 use Rattle.meaning.specs.Measures.{Means}
 use Rattle.meaning.specs.Plan.{Shows, State}
 use Rattle.meaning.specs.Problems.{Problem, allowed_sets, fitting, kinds_of, uses}
 use Rattle.meaning.specs.Register.{Register, loads_of}
-use Rattle.meaning.specs.Tallies.{chain_of, join_of, tally_by, tally_of, tally_over}
+use Rattle.meaning.specs.Tallies.{chain_of, join_of, tally_by, tally_over}
 use Rattle.model.specs.Parts.{parts}
 use Rattle.model.specs.Sets.{set_of}
 use Rattle.meaning.proofs.Same.{chain_same, map_same}

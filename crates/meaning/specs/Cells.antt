@@ -1,8 +1,7 @@
 -- What tables hold: cell (i, b) is at place i × width + b.
-use Rattle.std.specs.Prelude.{◌≡◌, ℕ, ◌+◌, ◌*◌, ◌/◌, ◌%◌, ◌<◌, ◌≤◌, Bool, List, ◌++◌, map, length, get_or, take, drop}
+use Rattle.std.specs.Prelude.{◌≡◌, ℕ, ◌+◌, ◌*◌, ◌/◌, ◌%◌, ◌<◌, ◌≤◌, Bool, List, ◌++◌, map, length, take, drop}
 use Rattle.std.specs.List.{range_with_len}
 use Rattle.meaning.specs.Measures.{Means}
-use Rattle.meaning.specs.Models.{yes_no}
 use Rattle.meaning.specs.Tallies.{tally_at, tally_past}
 use Rattle.model.specs.declared.kind.Kind.{Kind}
 use Rattle.model.specs.Parts.{Part}

@@ -1,8 +1,8 @@
 -- The theorems, in the subject's own words. Each is the `ensures` of a function, so that the check asks for its proof.
-use Rattle.std.specs.Prelude.{◌≡◌, ℕ, ◌<◌, true, false, List, [], ◌∷◌, length, slice_index}
+use Rattle.std.specs.Prelude.{◌≡◌, ℕ, ◌<◌, true, false, List, length, slice_index}
 use Rattle.meaning.specs.Measures.{Means}
 use Rattle.meaning.specs.Life.{Agrees, lives}
-use Rattle.meaning.specs.Plan.{Nested, Shows, State, Supports, does, says, settled, state_after}
+use Rattle.meaning.specs.Plan.{Nested, Shows, State, does, says, settled, state_after}
 use Rattle.meaning.specs.Problems.{Problem, allowed_sets, fitting, is_empty, kinds_of}
 use Rattle.meaning.specs.Register.{Call, Register, after, answers, loads_of, start, step}
 use Rattle.meaning.specs.Tallies.{tally_of, tally_over}

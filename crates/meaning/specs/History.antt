@@ -1,5 +1,5 @@
 -- A whole history: a blank plan is settled with a case, any list of calls follows, and then comes a tally.
-use Rattle.std.specs.Prelude.{◌≡◌, ℕ, cond, List, map, length, Some, None, Option, nat_lt}
+use Rattle.std.specs.Prelude.{◌≡◌, ℕ, cond, List, map, length, Some, Option, nat_lt}
 use Rattle.model.specs.Answers.{Answer, Outcome, accepted, refused}
 use Rattle.model.specs.declared.kind.Kind.{Kind}
 use Rattle.model.specs.Parts.{parts}

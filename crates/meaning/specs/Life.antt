@@ -1,5 +1,5 @@
 -- The life of a plan: blank over a goal, then settled with a case; and what each call does to it.
-use Rattle.std.specs.Prelude.{◌≡◌, ℕ, ◌+◌, ◌-◌, ◌*◌, ◌<◌, ◌≤◌, Bool, true, false, cond, ◌&&◌, ◌↔◌, List, [], ◌∷◌, length, replicate, ◌==◌, nat_le, nat_lt, slice_index}
+use Rattle.std.specs.Prelude.{◌≡◌, ℕ, ◌+◌, ◌-◌, ◌<◌, ◌≤◌, Bool, true, false, cond, ◌&&◌, ◌↔◌, List, [], ◌∷◌, length, replicate, ◌==◌, nat_le, nat_lt, slice_index}
 use Rattle.std.specs.List.{AllByRecursion as All}
 use Rattle.meaning.specs.Cells.{over, tallies, tallies_back}
 use Rattle.meaning.specs.Measures.{Means}
@@ -11,7 +11,7 @@ use Rattle.meaning.specs.Tallies.{tally_of, tally_over}
 use Rattle.model.specs.Answers.{Answer, Outcome, accepted, refuse, refused}
 use Rattle.model.specs.Goals.{Target}
 use Rattle.model.specs.declared.kind.Kind.{Kind}
-use Rattle.model.specs.Parts.{Part, parts}
+use Rattle.model.specs.Parts.{parts}
 use Rattle.model.specs.Sets.{has, held_in_all, set_of}
 
 pub data Life : Type 0 where

@@ -1,6 +1,5 @@
 -- Marks in the subject's own words.
-use Rattle.std.specs.Prelude.{◌≡◌, ℕ, ◌+◌, ◌<◌, ◌≤◌, Bool, true, List, [], ◌∷◌, slice_index}
-use Rattle.meaning.specs.Tallies.{tally_at, tally_past}
+use Rattle.std.specs.Prelude.{◌≡◌, ℕ, ◌+◌, ◌<◌, ◌≤◌, Bool, true, List, slice_index}
 use Rattle.model.specs.Loads.{total_of, Within}
 use Rattle.model.specs.Parts.{Part, sets_of}
 

@@ -1,5 +1,5 @@
 -- The four measures.
-use Rattle.std.specs.Prelude.{◌≡◌, ℕ, ◌+◌, ◌*◌, ◌<◌, ◌≤◌, min, max, Some, None, Option}
+use Rattle.std.specs.Prelude.{ℕ, ◌+◌, ◌*◌, ◌≤◌, min, max, Some, None, Option}
 use Rattle.std.specs.Int.Bits.{bit_and, bit_or}
 use Rattle.meaning.specs.Measures.{Means}
 

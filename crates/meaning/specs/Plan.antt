@@ -1,5 +1,5 @@
 -- What a plan holds, what each call does to that, and when a plan shows a register.
-use Rattle.std.specs.Prelude.{◌≡◌, ℕ, zero, suc, ◌+◌, ◌-◌, ◌<◌, ◌≤◌, Bool, true, false, not, List, [], ◌∷◌, ◌++◌, length, take, ◌==◌, nat_le, slice_index}
+use Rattle.std.specs.Prelude.{◌≡◌, ℕ, ◌+◌, ◌-◌, ◌<◌, ◌≤◌, true, false, not, List, [], ◌∷◌, length, take, ◌==◌, nat_le, slice_index}
 use Rattle.meaning.specs.Problems.{Problem, allowed_sets, fitting, in_range, is_empty, kinds_of, short, support, without}
 use Rattle.meaning.specs.Register.{Call, Register, RuleOut, branch, keep, loads_of, rule_out, withdraw}
 use Rattle.model.specs.Answers.{Answer, accepted, refuse, refused}

@@ -1,5 +1,5 @@
 -- The register of a plan: the rule-outs in force and the open branches, as they follow from the calls alone.
-use Rattle.std.specs.Prelude.{ℕ, zero, suc, ◌+◌, ◌-◌, Bool, true, false, not, ◌&&◌, List, [], ◌∷◌, ◌++◌, length, take, sum_by, filter, ◌==◌, nat_le}
+use Rattle.std.specs.Prelude.{ℕ, ◌+◌, ◌-◌, Bool, true, not, ◌&&◌, List, [], ◌∷◌, ◌++◌, length, take, sum_by, filter, ◌==◌, nat_le}
 use Rattle.std.specs.List.{range_with_len}
 use Rattle.model.specs.Answers.{Answer, accepted, refuse, refused}
 use Rattle.meaning.specs.Problems.{Problem, all_use, allowed_sets, fitting, has_at, in_range, kinds_of, short, uses}

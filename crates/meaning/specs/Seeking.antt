@@ -8,7 +8,7 @@ use Rattle.meaning.specs.Cells.{over}
 use Rattle.meaning.specs.Finding.{IsFirst, IsNext, RunRight, call_of, head_of}
 use Rattle.meaning.specs.Life.{Life, blank, lives}
 use Rattle.meaning.specs.Plan.{Shows}
-use Rattle.meaning.specs.Problems.{Problem, fitting, kinds_of, short}
+use Rattle.meaning.specs.Problems.{fitting, kinds_of, short}
 use Rattle.meaning.specs.Register.{Register, loads_of}
 
 -- where a search starts: before all loads, or after the given bytes

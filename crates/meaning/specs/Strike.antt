@@ -1,5 +1,5 @@
 -- Ruling out a count: the fitting loads without it are the fitting loads of the sets with that count struck.
-use Rattle.std.specs.Prelude.{◌≡◌, ℕ, ◌<◌, Bool, not, ◌&&◌, List, length, set, ◌==◌, slice_index, slice_set}
+use Rattle.std.specs.Prelude.{◌≡◌, ℕ, ◌<◌, not, ◌&&◌, List, length, ◌==◌, slice_index, slice_set}
 use Rattle.meaning.specs.Problems.{Problem, fitting, kinds_of, without}
 use Rattle.model.specs.Sets.{has, set_of}
 

@@ -1,7 +1,7 @@
 -- Entries whose calls are made one by one.
-use Rattle.std.proofs.Common.{◌≡◌, ℕ, zero, suc, ◌+◌, ◌<◌, ◌≤◌, List, [], ◌∷◌, ◌++◌, map, length, get_or, take, set, Some, None, Option, sym, refl, ap, ◌∙◌, subst, ap₂, arith}
+use Rattle.std.proofs.Common.{◌≡◌, ℕ, zero, suc, ◌+◌, ◌<◌, List, [], ◌∷◌, ◌++◌, map, length, get_or, take, set, Some, None, Option, sym, ap, ◌∙◌, ap₂, arith}
 use lib.ListN.{length-map}
-use Rattle.std.proofs.lemmas.List.{get_or-map, map-append, map_more, take_all, take_more_set}
+use Rattle.std.proofs.lemmas.List.{get_or-map, map-append, map_more, take_more_set}
 use Rattle.model.specs.Answers.{Answer}
 use Rattle.meaning.specs.Life.{Called, Life, act, life_after, replies}
 use Rattle.meaning.specs.Register.{Call as Asked}

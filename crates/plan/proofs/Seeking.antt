@@ -1,18 +1,16 @@
 -- What first load and next load answer.
-use Rattle.std.proofs.Common.{◌≡◌, ℕ, zero, suc, ◌+◌, ◌*◌, ◌<◌, ◌≤◌, Bool, true, false, cond, eqb, ltb, List, length, take, is_some, Some, None, Option, sym, refl, ap, ◌∙◌, subst, arith}
+use Rattle.std.proofs.Common.{◌≡◌, ℕ, zero, suc, ◌+◌, ◌*◌, ◌<◌, ◌≤◌, Bool, true, false, eqb, ltb, List, length, take, Some, None, Option, sym, refl, ap, ◌∙◌, subst, arith}
 use Rattle.std.proofs.lemmas.Bool.{cond-true, cond-false, eq-eqb, ltb-false, or_parts, true≢false, false≢true}
 use Rattle.model.specs.declared.kind.Kind.{Kind}
-use Rattle.model.specs.Answers.{Outcome, accepted, refused}
+use Rattle.model.specs.Answers.{accepted, refused}
 use Rattle.model.specs.Goals.{Bounded, Target}
 use Rattle.model.specs.Loads.{fits}
 use Rattle.model.specs.Parts.{Part, parts}
 use Rattle.meaning.specs.Cells.{over, tallies_back}
-use Rattle.meaning.specs.Finding.{Gives, call_of, onwards, or_kept}
-use Rattle.meaning.specs.Life.{Life, lives}
+use Rattle.meaning.specs.Finding.{Gives, onwards}
+use Rattle.meaning.specs.Life.{lives}
 use Rattle.meaning.specs.Models.{yes_no}
-use Rattle.meaning.specs.Plan.{Shows}
 use Rattle.meaning.specs.Problems.{Problem, fitting, kinds_of, needed, short}
-use Rattle.meaning.specs.Register.{Register, loads_of}
 use Rattle.meaning.specs.Seeking.{Comes, Found, NoneComes, OnRun, Place, finds, found_or, sought}
 use Rattle.meaning.proofs.Grid.{over_holds}
 use Rattle.meaning.proofs.Rising.{run_right}

@@ -3,7 +3,7 @@ use Rattle.model.specs.declared.kind.Kind.{Kind}
 use Rattle.std.specs.Prelude.{ℕ, List}
 use Rattle.model.specs.Goals.{Target}
 use Rattle.meaning.specs.Problems.{needed, problem}
-use Rattle.meaning.specs.Life.{Life, blank}
+use Rattle.meaning.specs.Life.{Life}
 use Rattle.plan.specs.declared.plan.Plan.{Plan}
 use Rattle.meaning.specs.View.{life_of}
 

@@ -1,11 +1,11 @@
 -- The search: going down the marks with the least counts, and the kind to raise.
-use Rattle.std.proofs.Common.{◌≡◌, ℕ, zero, suc, ◌+◌, ◌-◌, ◌*◌, ◌<◌, ◌≤◌, Bool, true, false, cond, ◌&&◌, eqb, ltb, ◌⊎◌, List, [], ◌∷◌, ◌++◌, length, get_or, take, drop, set, is_some, Some, None, Option, sym, refl, ap, ◌∙◌, subst, inl, inr, append_assoc, add_assoc, zero-add, add-one, arith, take-append-drop, length-take}
+use Rattle.std.proofs.Common.{◌≡◌, ℕ, zero, suc, ◌+◌, ◌-◌, ◌*◌, ◌<◌, ◌≤◌, Bool, true, false, ◌&&◌, eqb, ltb, List, [], ◌∷◌, ◌++◌, length, get_or, take, drop, set, is_some, Some, Option, sym, refl, ap, ◌∙◌, subst, inl, inr, append_assoc, add_assoc, zero-add, add-one, arith, take-append-drop, length-take}
 use Rattle.std.specs.List.{AllByRecursion as All, slice_get}
-use Rattle.std.proofs.lemmas.List.{take_all, take-take, take_more_set, take-set-le, drop_more, drop_all, drop_at, append-nil}
-use Rattle.std.proofs.lemmas.Bool.{cases_lt, cases_eq, cases_order, cases_Bool, false≢true, both_ways, and_parts, and_from, lt-ltb, ltb-true, eq-eqb, eqb-true}
+use Rattle.std.proofs.lemmas.List.{take_all, take_more_set, take-set-le, drop_more, drop_all, drop_at, append-nil}
+use Rattle.std.proofs.lemmas.Bool.{cases_lt, cases_eq, cases_order, false≢true, both_ways, and_parts, and_from, lt-ltb, ltb-true, eq-eqb, eqb-true}
 use Rattle.std.proofs.ByRecursion.{All-drop}
 use Rattle.meaning.proofs.Choosing.{cheap_parts}
-use Rattle.meaning.proofs.Marking.{close, closed, stands_take}
+use Rattle.meaning.proofs.Marking.{close, closed}
 use Rattle.meaning.proofs.Rising.{first_kept, first_of_loads, next_nth, none_kept, none_of_loads}
 use Rattle.meaning.proofs.Grid.{holds_at}
 use Rattle.meaning.proofs.Rows.{length_parts, parts_at}
@@ -20,7 +20,7 @@ use Rattle.model.specs.Order.{before}
 use Rattle.model.specs.Parts.{Part, part, parts}
 use Rattle.model.specs.Sets.{has}
 use Rattle.model.specs.declared.kind.Kind.{Kind}
-use Rattle.search.specs.Search.{Held, Highest, Leads, Least, NoneFrom, closes, no_part, raises}
+use Rattle.search.specs.Search.{Held, Highest, Least, NoneFrom, closes, no_part, raises}
 
 -- ---- the marks, in the subject's words
 

@@ -1,8 +1,8 @@
 -- What is read at a place.
-use Rattle.std.proofs.Common.{◌≡◌, ℕ, zero, suc, ◌+◌, ◌-◌, ◌*◌, ◌<◌, ◌≤◌, Bool, List, [], ◌∷◌, length, get_or, sym, refl, ap, ◌∙◌, arith}
+use Rattle.std.proofs.Common.{◌≡◌, ℕ, zero, suc, ◌+◌, ◌-◌, ◌*◌, ◌<◌, ◌≤◌, Bool, List, [], ◌∷◌, length, get_or, refl, ap, ◌∙◌, arith}
 use Rattle.meaning.proofs.Rows.{length_parts}
 use Rattle.meaning.specs.Paths.{total_to}
-use Rattle.model.specs.Parts.{Part, parts}
+use Rattle.model.specs.Parts.{parts}
 use Rattle.model.specs.declared.kind.Kind.{Kind}
 use Rattle.search.proofs.Finding.{total_step}
 use Rattle.search.specs.Search.{Held, no_part}

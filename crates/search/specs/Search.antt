@@ -1,5 +1,5 @@
 -- What the parts of the search say.
-use Rattle.std.specs.Prelude.{◌≡◌, ℕ, ◌+◌, ◌*◌, ◌<◌, ◌≤◌, Bool, true, false, ◌&&◌, List, [], ◌∷◌, length, get_or, take, ◌==◌, nat_lt, slice_index, slice_index_or}
+use Rattle.std.specs.Prelude.{◌≡◌, ℕ, ◌+◌, ◌*◌, ◌<◌, ◌≤◌, Bool, true, false, ◌&&◌, List, length, get_or, take, ◌==◌, nat_lt, slice_index, slice_index_or}
 use Rattle.meaning.specs.Marks.{Stands}
 use Rattle.meaning.specs.Models.{yes_no}
 use Rattle.model.specs.Loads.{total_of}

@@ -1,16 +1,13 @@
 -- The two tables of a plan, and the first backward cell.
-use Rattle.std.proofs.Common.{◌≡◌, ℕ, ◌+◌, ◌*◌, ◌<◌, ◌≤◌, Bool, true, false, not, eqb, List, ◌++◌, length, get_or, drop, sym, refl, ap, ◌∙◌, subst, arith, take-append-drop}
+use Rattle.std.proofs.Common.{◌≡◌, ℕ, ◌+◌, ◌*◌, ◌<◌, Bool, true, false, not, eqb, List, ◌++◌, length, get_or, drop, sym, ap, ◌∙◌, arith, take-append-drop}
 use Rattle.std.proofs.lemmas.List.{get_or_read}
-use Rattle.std.proofs.lemmas.Nat.{mul-le}
-use Rattle.std.proofs.lemmas.Bool.{eq-eqb, ne_eqb, true≢false, false≢true}
 use Rattle.meaning.specs.Models.{yes_no}
 use Rattle.model.specs.declared.kind.Kind.{Kind}
-use Rattle.model.specs.Parts.{Part, parts}
+use Rattle.model.specs.Parts.{parts}
 use Rattle.model.specs.Loads.{fits}
 use Rattle.meaning.specs.Tallies.{tally_past}
 use Rattle.meaning.specs.Problems.{is_empty}
 use Rattle.meaning.specs.Cells.{tallies_back, Holds, Ready, BothReady, over}
-use Rattle.meaning.proofs.Rows.{length_parts}
 use Rattle.meaning.proofs.Grid.{holds_at}
 use Rattle.meaning.proofs.Choosing.{cheap_parts}
 use Rattle.meaning.proofs.Marking.{some_load}

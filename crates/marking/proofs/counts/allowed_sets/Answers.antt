@@ -1,4 +1,4 @@
-use Rattle.std.proofs.Common.{◌≡◌, ℕ, ◌+◌, ◌<◌, ◌≤◌, List, [], ◌∷◌, ◌++◌, map, length, get_or, take, set, sym, ap, ◌∙◌, ap₂, add-one, arith, length-set, take-suc-set, rules}
+use Rattle.std.proofs.Common.{◌≡◌, ◌<◌, ◌≤◌, [], ◌∷◌, ◌++◌, map, length, get_or, take, set, sym, ap, ◌∙◌, ap₂, add-one, arith, length-set, take-suc-set}
 use Rattle.std.proofs.lemmas.List.{take_all, map_more}
 use Rattle.marking.proofs.counts.allowed_sets.Goals as goal
 

@@ -1,5 +1,4 @@
-use Rattle.std.proofs.Common.{◌≡◌, ℕ, ◌+◌, ◌*◌, ◌≤◌, min, List, length, take, replicate, sym, refl, ap, ◌∙◌, subst, arith, length-take, rules}
-use lib.ListN.{length-replicate}
+use Rattle.std.proofs.Common.{◌≡◌, ℕ, ◌+◌, ◌*◌, ◌≤◌, min, length, take, sym, refl, ap, ◌∙◌, subst, arith, length-take, rules}
 use Rattle.meaning.specs.Models.{yes_no}
 use Rattle.model.specs.Parts.{parts}
 use Rattle.meaning.specs.Cells.{tallies, tallies_back, over, Holds}

@@ -1,4 +1,4 @@
-use Rattle.std.proofs.Common.{◌≡◌, ℕ, ◌+◌, ◌*◌, length, sym, refl, ap, ◌∙◌, rules}
+use Rattle.std.proofs.Common.{◌≡◌, ◌+◌, ◌*◌, length, sym, refl, ap, ◌∙◌, rules}
 use Rattle.meaning.specs.Models.{yes_no}
 use Rattle.model.specs.Parts.{parts}
 use Rattle.meaning.specs.Cells.{tallies, tallies_back, over}

@@ -1,4 +1,4 @@
-use Rattle.std.proofs.Common.{◌≡◌, ℕ, ◌<◌, ◌≤◌, List, length, take, sym, refl, ap, ◌∙◌, subst, arith, rules}
+use Rattle.std.proofs.Common.{◌≡◌, ℕ, List, length, take, subst, arith, rules}
 use Rattle.meaning.specs.Used.{Pruned}
 use Rattle.meaning.proofs.Lists.{long_take}
 use Rattle.marking.proofs.Striking.{rest_is, smaller}

@@ -1,4 +1,4 @@
-use Rattle.std.proofs.Common.{arith, rules}
+use Rattle.std.proofs.Common.{rules}
 use Rattle.tables.proofs.asking.width_of.Goals as goal
 
 pub overflow_add-result : goal.overflow_add-result

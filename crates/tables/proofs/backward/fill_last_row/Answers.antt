@@ -1,4 +1,4 @@
-use Rattle.std.proofs.Common.{◌≡◌, ℕ, ◌+◌, ◌<◌, ◌≤◌, length, get_or, ◌∙◌, arith}
+use Rattle.std.proofs.Common.{◌+◌, ◌<◌, length, arith}
 use Rattle.meaning.specs.Recurrence.{last_row}
 use Rattle.meaning.proofs.Rows.{row_more, kept_more}
 use Rattle.meaning.specs.Models.{yes_no}

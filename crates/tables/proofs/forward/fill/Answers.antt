@@ -1,7 +1,6 @@
-use Rattle.std.proofs.Common.{◌≡◌, ℕ, ◌+◌, ◌*◌, ◌<◌, ◌≤◌, length, get_or, sym, refl, ap, ◌∙◌, arith, Fits}
+use Rattle.std.proofs.Common.{◌≡◌, ◌+◌, ◌<◌, length, get_or, refl, arith}
 use Rattle.std.proofs.lemmas.Nat.{mul-le}
 use Rattle.model.specs.Parts.{part, parts}
-use Rattle.meaning.specs.Recurrence.{FilledTo}
 use Rattle.meaning.proofs.Rows.{length_parts, parts_at, fill_none, fill_more, fill_since}
 use Rattle.tables.proofs.forward.fill.Goals as goal
 

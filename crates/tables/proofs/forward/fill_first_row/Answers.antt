@@ -1,4 +1,4 @@
-use Rattle.std.proofs.Common.{◌≡◌, ℕ, ◌+◌, ◌<◌, length, get_or, set, sym, ap, ◌∙◌, inl, inr, zero-add, arith, get_or-set_other, get_or-set_same}
+use Rattle.std.proofs.Common.{◌<◌, length, get_or, set, sym, ap, ◌∙◌, inl, inr, zero-add, arith, get_or-set_other, get_or-set_same}
 use Rattle.std.proofs.lemmas.Bool.{cases_eq, cond-true, cond-false, eq-eqb, ne_eqb}
 use Rattle.meaning.specs.Recurrence.{first_row}
 use Rattle.tables.proofs.forward.fill_first_row.Goals as goal

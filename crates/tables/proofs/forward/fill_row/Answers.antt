@@ -1,7 +1,6 @@
-use Rattle.std.proofs.Common.{◌≡◌, ℕ, ◌+◌, ◌-◌, ◌*◌, ◌<◌, ◌≤◌, cond, leb, get_or, sym, refl, ap, ◌∙◌, ap₂, arith}
+use Rattle.std.proofs.Common.{◌≡◌, ℕ, ◌+◌, ◌-◌, ◌*◌, cond, leb, get_or, sym, refl, ap, ◌∙◌, ap₂, arith}
 use Rattle.model.specs.Parts.{part}
 use Rattle.model.specs.Sets.{has}
-use Rattle.meaning.specs.Recurrence.{row_after}
 use Rattle.meaning.proofs.Rows.{join_to, join_to_more, join_to_all, row_same}
 use Rattle.tables.proofs.forward.fill_row.Goals as goal
 

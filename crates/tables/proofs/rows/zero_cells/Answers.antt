@@ -1,4 +1,4 @@
-use Rattle.std.proofs.Common.{◌≡◌, ◌+◌, ◌<◌, length, arith}
+use Rattle.std.proofs.Common.{◌+◌, ◌<◌, length, arith}
 use Rattle.meaning.proofs.Rows.{row_more, kept_more}
 use Rattle.tables.proofs.rows.zero_cells.Goals as goal
 

@@ -1,4 +1,4 @@
-use Rattle.std.proofs.Common.{◌≡◌, get_or, sym, refl, ap, ◌∙◌, zero-add, arith}
+use Rattle.std.proofs.Common.{get_or, sym, refl, ap, ◌∙◌, zero-add, arith}
 use Rattle.meaning.proofs.Grid.{zeros_over}
 use Rattle.tables.proofs.table.clear.Goals as goal
 

@@ -1,4 +1,4 @@
-use Rattle.std.proofs.Common.{◌≡◌, length, refl}
+use Rattle.std.proofs.Common.{length, refl}
 use Rattle.model.specs.Parts.{parts}
 use Rattle.meaning.proofs.Rows.{length_parts}
 use Rattle.meaning.proofs.Choosing.{tallied, cheap_parts}

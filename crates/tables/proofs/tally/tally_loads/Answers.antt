@@ -1,4 +1,4 @@
-use Rattle.std.proofs.Common.{◌≡◌, ℕ, ◌+◌, ◌*◌, ◌<◌, true, length, refl, ap, ◌∙◌, arith}
+use Rattle.std.proofs.Common.{◌≡◌, ℕ, ◌*◌, ◌<◌, true, length, ap, ◌∙◌, arith}
 use Rattle.model.specs.Parts.{parts}
 use Rattle.meaning.specs.Cells.{tallies, Holds}
 use Rattle.meaning.proofs.Rows.{length_parts}

@@ -1,10 +1,10 @@
-use Rattle.std.proofs.Common.{◌≡◌, ℕ, ◌+◌, ◌^◌, ◌<◌, ◌≤◌, Bool, ◌&&◌, ◌||◌, sym, ap, ◌∙◌, subst, arith, rules, below_more}
+use Rattle.std.proofs.Common.{◌≡◌, ℕ, ◌^◌, ◌<◌, ◌∙◌, arith, rules, below_more}
 use Rattle.model.specs.Sets.{has}
 use Rattle.model.specs.Parts.{parts}
 use Rattle.model.specs.Loads.{fits}
 use Rattle.meaning.specs.Problems.{uses}
 use Rattle.meaning.proofs.Bits.{is_set_of}
-use Rattle.meaning.proofs.Sets.{put_same, put_other, has_none}
+use Rattle.meaning.proofs.Sets.{put_same, put_other}
 use Rattle.tables.proofs.used.used_set.Goals as goal
 
 pub loop-d-preserved : goal.loop-d-preserved

@@ -1,5 +1,5 @@
-use Rattle.std.proofs.Common.{◌≡◌, ℕ, ◌+◌, ◌<◌, ◌≤◌, min, length, get_or, take, set, sym, refl, ◌∙◌, zero-add, arith, length-set, length-take, get_or-set_other, get_or-set_same, below_more}
-use Rattle.std.proofs.lemmas.List.{ext_get_or, get_or-take}
+use Rattle.std.proofs.Common.{◌≡◌, ℕ, ◌<◌, ◌≤◌, min, length, get_or, take, set, ◌∙◌, arith, length-set, length-take, get_or-set_other, get_or-set_same, below_more}
+use Rattle.std.proofs.lemmas.List.{get_or-take}
 use Rattle.std.proofs.lemmas.List.FromFn.{fill_by_all}
 use Rattle.model.specs.Sets.{set_of}
 use Rattle.model.specs.Parts.{parts}

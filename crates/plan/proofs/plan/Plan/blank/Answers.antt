@@ -1,4 +1,4 @@
-use Rattle.std.proofs.Common.{◌≡◌, ℕ, length, replicate, sym, refl, ap, ◌∙◌, arith, lit≤}
+use Rattle.std.proofs.Common.{replicate, refl, arith, lit≤}
 use Rattle.model.proofs.Adding.{no_kinds}
 use Rattle.meaning.proofs.PlanFields.{inside_none, blank_is}
 use Rattle.plan.proofs.plan.Plan.blank.Goals as goal

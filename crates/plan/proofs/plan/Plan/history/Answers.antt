@@ -1,8 +1,7 @@
-use Rattle.std.proofs.Common.{◌≡◌, ℕ, List, map, length, Some, sym, refl, ap, ◌∙◌, subst, ap₂, rules}
+use Rattle.std.proofs.Common.{◌≡◌, ℕ, List, map, length, Some, ap, ◌∙◌, ap₂}
 use Rattle.model.specs.Answers.{accepted, outcome_as}
 use Rattle.model.specs.Cases.{kinds_in}
-use Rattle.meaning.specs.Cells.{over}
-use Rattle.meaning.specs.Life.{Settled, backward_marks, forward_marks, life_after, open_in, replies}
+use Rattle.meaning.specs.Life.{Settled, life_after, open_in, replies}
 use Rattle.meaning.specs.Register.{Call}
 use Rattle.meaning.proofs.Lives.{history_lived, opened_are, still_lives}
 use Rattle.plan.specs.Entries.{answers_in, calls_in}

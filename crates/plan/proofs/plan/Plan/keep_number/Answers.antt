@@ -1,4 +1,4 @@
-use Rattle.std.proofs.Common.{◌≡◌, ℕ, ◌-◌, ◌<◌, ◌≤◌, sym, refl, subst, arith, rules}
+use Rattle.std.proofs.Common.{ℕ, ◌-◌, ◌<◌, ◌≤◌, sym, refl, subst, arith}
 use Rattle.model.specs.Answers.{accepted, refused}
 use Rattle.meaning.specs.Register.{keep}
 use Rattle.meaning.specs.Life.{Called}

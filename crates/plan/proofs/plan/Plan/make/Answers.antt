@@ -1,4 +1,4 @@
-use Rattle.std.proofs.Common.{◌≡◌, length, sym, subst}
+use Rattle.std.proofs.Common.{length, sym, subst}
 use Rattle.meaning.specs.Life.{Called, backward_marks, forward_marks}
 use Rattle.meaning.proofs.Remarks.{ahead, back, branched_on, kept_on}
 use Rattle.plan.specs.Entries.{asked, reply_of}

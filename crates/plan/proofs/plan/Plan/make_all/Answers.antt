@@ -1,9 +1,8 @@
-use Rattle.std.proofs.Common.{◌≡◌, ℕ, ◌<◌, ◌≤◌, List, map, length, take, Some, sym, refl, ap, ◌∙◌, subst, arith, rules}
+use Rattle.std.proofs.Common.{◌≡◌, ℕ, ◌<◌, ◌≤◌, map, length, take, Some, sym, ap, ◌∙◌, subst, arith}
 use Rattle.std.proofs.lemmas.List.{take_all}
 use Rattle.meaning.specs.Life.{Called, life_after, replies}
 use Rattle.plan.specs.Entries.{answers_in, asked, calls_in, reply_of}
 use Rattle.plan.specs.Seen.{life}
-use Rattle.entries.specs.declared.Entry.{Entry}
 use Rattle.plan.proofs.Making.{answer_step, calls_set, life_step}
 use Rattle.plan.proofs.plan.Plan.make_all.Goals as goal
 

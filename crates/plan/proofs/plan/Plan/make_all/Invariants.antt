@@ -1,4 +1,4 @@
-use Rattle.std.proofs.Common.{◌≡◌, map, length, take, drop, Some}
+use Rattle.std.proofs.Common.{◌≡◌, map, length, take, Some}
 use Rattle.meaning.specs.Life.{Remarks, backward_marks, forward_marks, life_after, replies}
 use Rattle.plan.specs.Entries.{answers_in, calls_in, calls_of}
 use Rattle.plan.specs.Seen.{life}

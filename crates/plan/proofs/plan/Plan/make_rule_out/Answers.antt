@@ -1,4 +1,4 @@
-use Rattle.std.proofs.Common.{◌≡◌, ℕ, ◌≤◌, min, length, take, sym, refl, ap, ◌∙◌, subst, arith, rules}
+use Rattle.std.proofs.Common.{min, length, arith}
 use Rattle.meaning.proofs.Remarks.{made_rule_out}
 use Rattle.plan.proofs.Stage.{whole}
 use Rattle.plan.proofs.plan.Plan.make_rule_out.Goals as goal

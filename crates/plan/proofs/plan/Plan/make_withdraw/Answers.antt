@@ -1,4 +1,4 @@
-use Rattle.std.proofs.Common.{◌≡◌, ℕ, ◌≤◌, min, length, take, sym, refl, ap, ◌∙◌, subst, arith, rules}
+use Rattle.std.proofs.Common.{ℕ, min, length, take, subst, arith}
 use Rattle.meaning.specs.Life.{Called}
 use Rattle.meaning.specs.Register.{withdraw}
 use Rattle.meaning.proofs.Remarks.{made_withdraw}

@@ -1,4 +1,4 @@
-use Rattle.std.proofs.Common.{◌≡◌, ℕ, ◌+◌, ◌-◌, ◌<◌, ◌≤◌, Bool, true, false, ◌&&◌, leb, List, length, get_or, take, Some, sym, refl, ap, ◌∙◌, subst, ap₂, arith, rules}
+use Rattle.std.proofs.Common.{◌≡◌, ℕ, ◌+◌, ◌-◌, ◌<◌, ◌≤◌, true, false, ◌&&◌, leb, List, length, get_or, take, Some, sym, refl, ap, ◌∙◌, subst, ap₂, arith, rules}
 use Rattle.std.proofs.lemmas.List.{get_or-take}
 use Rattle.model.specs.declared.kind.Kind.{Kind}
 use Rattle.model.specs.Answers.{accepted, refused}
@@ -7,7 +7,6 @@ use Rattle.model.specs.Parts.{Part, parts}
 use Rattle.model.specs.Sets.{has, held_in_all}
 use Rattle.meaning.specs.Cells.{tallies, tallies_back, over}
 use Rattle.meaning.specs.Models.{yes_no}
-use Rattle.meaning.specs.Plan.{Lies}
 use Rattle.meaning.specs.Problems.{in_range, is_empty, short, support, without}
 use Rattle.meaning.specs.Register.{rule_out}
 use Rattle.meaning.proofs.Held.{held_take_less}

@@ -1,4 +1,4 @@
-use Rattle.std.proofs.Common.{◌≡◌, ℕ, ◌+◌, ◌*◌, ◌<◌, ◌≤◌, true, false, List, length, take, sym, refl, ap, ◌∙◌, subst, arith, rules}
+use Rattle.std.proofs.Common.{◌≡◌, ◌+◌, ◌<◌, false, List, length, take, sym, refl, ap, ◌∙◌, subst, arith, rules}
 use Rattle.model.specs.declared.kind.Kind.{Kind}
 use Rattle.model.specs.Loads.{fits}
 use Rattle.model.specs.Parts.{Part, parts}

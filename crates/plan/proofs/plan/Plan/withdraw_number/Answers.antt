@@ -1,4 +1,4 @@
-use Rattle.std.proofs.Common.{◌≡◌, ℕ, ◌+◌, ◌-◌, ◌*◌, ◌<◌, ◌≤◌, Bool, true, false, List, [], length, get_or, take, sym, refl, ap, ◌∙◌, subst, arith, rules}
+use Rattle.std.proofs.Common.{◌≡◌, ℕ, ◌+◌, ◌-◌, ◌<◌, ◌≤◌, true, false, List, [], length, get_or, take, sym, refl, ap, ◌∙◌, subst, arith, rules}
 use Rattle.model.specs.declared.kind.Kind.{Kind}
 use Rattle.model.specs.Answers.{accepted, refused}
 use Rattle.model.specs.Parts.{parts}

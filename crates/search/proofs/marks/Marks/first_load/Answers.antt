@@ -1,4 +1,4 @@
-use Rattle.std.proofs.Common.{◌≡◌, true, false, get_or, sym, ◌∙◌, arith}
+use Rattle.std.proofs.Common.{true, false, get_or, sym, ◌∙◌, arith}
 use Rattle.std.proofs.lemmas.Bool.{eqb-true, eqb-false, true≢false, false≢true}
 use Rattle.meaning.proofs.Rising.{head_nth}
 use Rattle.model.specs.Loads.{fits}

@@ -1,4 +1,4 @@
-use Rattle.std.proofs.Common.{◌≡◌, true, false, ◌∙◌, arith, length-set}
+use Rattle.std.proofs.Common.{true, false, ◌∙◌, arith, length-set}
 use Rattle.std.proofs.lemmas.Bool.{true≢false, false≢true}
 use Rattle.search.proofs.Finding.{next_gives, next_in_run, next_none, none_next_gives, raise_closes, raise_next}
 use Rattle.search.proofs.Read.{held_of, parts_long}

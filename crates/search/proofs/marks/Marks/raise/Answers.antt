@@ -1,8 +1,8 @@
-use Rattle.std.proofs.Common.{◌≡◌, ℕ, ◌+◌, ◌-◌, ◌*◌, ◌<◌, ◌≤◌, false, ◌&&◌, ltb, length, get_or, sym, refl, ap, ◌∙◌, arith, below_more}
+use Rattle.std.proofs.Common.{◌≡◌, ◌+◌, ◌-◌, false, ◌&&◌, ltb, get_or, sym, ap, ◌∙◌, arith, below_more}
 use Rattle.meaning.specs.Paths.{total_to}
 use Rattle.search.proofs.Finding.{lower}
 use Rattle.search.proofs.Read.{parts_long, taken_off}
-use Rattle.search.specs.Seen.{closes_in, part_in, parts_in, raises_in}
+use Rattle.search.specs.Seen.{closes_in, parts_in, raises_in}
 use Rattle.search.proofs.marks.Marks.raise.Goals as goal
 
 pub overflow_sub-total : goal.overflow_sub-total

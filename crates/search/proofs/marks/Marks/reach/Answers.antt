@@ -1,4 +1,4 @@
-use Rattle.std.proofs.Common.{◌≡◌, ℕ, ◌+◌, ◌*◌, ◌<◌, ◌≤◌, length, get_or, sym, refl, ap, ◌∙◌, arith}
+use Rattle.std.proofs.Common.{◌≡◌, ◌+◌, ◌<◌, length, refl, ap, ◌∙◌, arith}
 use Rattle.meaning.specs.Paths.{total_to}
 use Rattle.search.proofs.Finding.{stands_ends, stands_step, total_step}
 use Rattle.search.proofs.Read.{parts_long}
