@@ -3,15 +3,15 @@ use Rattle.std.proofs.Common.{◌≡◌, ℕ, zero, suc, Bool, true, false, cond
 use Rattle.model.specs.declared.kind.Kind.{Kind}
 use Rattle.model.specs.Goals.{Target}
 use Rattle.model.specs.Answers.{Answer, Outcome, accepted, refuse, refused}
-use Rattle.meaning.specs.History.{ByRegister, Ending, History, ends, lived}
-use Rattle.meaning.specs.Life.{Life, act, blank, goal_of, life_after, lives, open_in, replies, settles, tallied}
+use Rattle.meaning.specs.History.{ToldByRegister, Ending, WholeHistory, ends, lived}
+use Rattle.meaning.specs.Life.{Life, Ran, Told, ToldAll, act, blank, goal_of, life_after, lives, open_in, replies, settles, tallied}
 use Rattle.meaning.specs.Measures.{Means}
-use Rattle.meaning.specs.Plan.{State, does, says, settled, state_after}
+use Rattle.meaning.specs.Plan.{Shows, State, does, says, settled, state_after}
 use Rattle.meaning.specs.Problems.{Problem, allowed_sets, fitting, is_empty, needed, problem, short}
-use Rattle.meaning.specs.Register.{Call, after, start}
+use Rattle.meaning.specs.Register.{Call, Register, after, answers, start}
 use Rattle.meaning.specs.View.{life_of}
 use Rattle.meaning.proofs.PlanBranching.{rows_long}
-use Rattle.meaning.proofs.Runs.{agree, run_shows, settled_shows}
+use Rattle.meaning.proofs.Runs.{agree, last_way, run_shows, settled_shows, stands}
 use Rattle.meaning.proofs.Steps.{notes_long}
 use Rattle.meaning.proofs.Tallies.{tally_stands}
 
@@ -31,6 +31,25 @@ life_more l (y ∷ ys) x = life_more (act l y).0 ys x
 pub replies_more : (l : Life) (xs : List Call) (x : Call) → replies l (xs ++ x ∷ []) ≡ replies l xs ++ (act (life_after l xs) x).1 ∷ []
 replies_more l [] x = refl
 replies_more l (y ∷ ys) x = ap (λ (said : List Answer). (act l y).1 ∷ said) (replies_more (act l y).0 ys x)
+
+told_by : (c : Problem) (s : State) (xs : List Call) (r : Register) → Shows c s r → Told c r xs (lives c (state_after c s xs)) (says c s xs)
+told_by c s xs r sh =
+    let m = run_shows c s r xs sh in
+    record { shown = m.0; answered = m.1; stands = stands c (state_after c s xs) (after c r xs) m.0; last_way = last_way c (state_after c s xs) (after c r xs) m.0 }
+
+told_all : (l : Life) (xs : List Call) → ToldAll l xs (life_after l xs) (replies l xs)
+told_all (blank g) xs = tt
+told_all (lives c s) xs =
+    λ r sh. subst (λ (l : Life). Told c r xs l (replies (lives c s) xs)) (sym (lives_after c s xs))
+    (subst (λ (said : List Answer). Told c r xs (lives c (state_after c s xs)) said) (sym (lives_say c s xs)) (told_by c s xs r sh))
+
+pub ran : (before : Life) (xs : List Call) (last : Life) (said : List Answer) → last ≡ life_after before xs → said ≡ replies before xs → Ran before xs last said
+ran before xs last said e f =
+    record {
+      life = e;
+      says = f;
+      told = subst (λ (l : Life). ToldAll before xs l said) (sym e) (subst (λ (ys : List Answer). ToldAll before xs (life_after before xs) ys) (sym f) (told_all before xs));
+    }
 
 never : (m n : ℕ) → refused n ≡ accepted m → ⊥
 never m n e = let z : ◌≡◌ {A = ℕ} 0 1 = cc in omega arith
@@ -69,7 +88,7 @@ begun (blank g) kinds f b n e =
 -- what the register tells of the calls after an accepted settle
 by_register : {V : Type 0} (m : Means V) (c : Problem) (xs : List Call) (values : ℕ) (said : List (Option Answer)) → is_empty (fitting c (allowed_sets c)) ≡ false
     → said ≡ map Some (replies (lives c (settled c)) xs)
-    → let last : Life = lives c (state_after c (settled c) xs) in ByRegister m c xs values last said (tallied m last values) (open_in last)
+    → let last : Life = lives c (state_after c (settled c) xs) in ToldByRegister m c xs values last said (tallied m last values) (open_in last)
 by_register m c xs values said live are =
     let s = state_after c (settled c) xs in
     let ran = run_shows c (settled c) start xs (settled_shows c live) in
@@ -83,7 +102,7 @@ by_register m c xs values said live are =
 -- a history whose settle was accepted
 pub history_lived : {V : Type 0} (m : Means V) (before : Life) (kinds : List Kind) (f b : ℕ) (xs : List Call) (values : ℕ) (first last : Life) (said : List (Option Answer)) (n : ℕ) (tally : Outcome V) (opened : ℕ)
     → first ≡ (settles before kinds f b).0 → accepted n ≡ (settles before kinds f b).1 → last ≡ life_after first xs → said ≡ map Some (replies first xs)
-    → tally ≡ tallied m last values → opened ≡ open_in last → History m before kinds f b xs values last said (lived n tally opened)
+    → tally ≡ tallied m last values → opened ≡ open_in last → WholeHistory m before kinds f b xs values last said (lived n tally opened)
 history_lived {V} m before kinds f b xs values first last said n tally opened e a goes are sum many =
     let c = problem (goal_of before) kinds in
     let P : Answer → Life × Ending V = λ x. ends m xs values (settles before kinds f b).0 x in
@@ -92,9 +111,9 @@ history_lived {V} m before kinds f b xs values first last said n tally opened e 
     let ends_at : last ≡ lives c (state_after c (settled c) xs) = goes ∙ ap (λ l. life_after l xs) is ∙ lives_after c (settled c) xs in
     let at : life_after (settles before kinds f b).0 xs ≡ last = ap (λ l. life_after l xs) (sym e) ∙ sym goes in
     let told = by_register m c xs values said been.live (are ∙ ap (λ l. map Some (replies l xs)) is) in
-    let T : Life → Type 0 = λ l. ByRegister m c xs values l said (tallied m l values) (open_in l) in
-    let T' : Outcome V → Type 0 = λ v. ByRegister m c xs values last said v (open_in last) in
-    let T'' : ℕ → Type 0 = λ k. ByRegister m c xs values last said tally k in
+    let T : Life → Type 0 = λ l. ToldByRegister m c xs values l said (tallied m l values) (open_in l) in
+    let T' : Outcome V → Type 0 = λ v. ToldByRegister m c xs values last said v (open_in last) in
+    let T'' : ℕ → Type 0 = λ k. ToldByRegister m c xs values last said tally k in
     record {
       life = sym at ∙ ap (λ x. (P x).0) a;
       ending = ap₂ (λ v k. lived n v k) sum many ∙ ap (λ (l : Life). lived n (tallied m l values) (open_in l)) (sym at) ∙ ap (λ x. (P x).1) a;

@@ -1,14 +1,14 @@
 -- Any calls after a settle.
-use Rattle.std.proofs.Common.{◌≡◌, ℕ, ◌-◌, ◌<◌, ◌≤◌, Bool, true, false, not, ◌&&◌, leb, List, [], ◌∷◌, get_or, filter, sym, refl, ap, ◌∙◌, subst, ap₂, zero-le, arith}
+use Rattle.std.proofs.Common.{◌≡◌, ℕ, ◌-◌, ◌<◌, ◌≤◌, Bool, true, false, not, ◌&&◌, leb, ◌↔◌, List, [], ◌∷◌, get_or, filter, sym, refl, ap, ◌∙◌, subst, ap₂, zero-le, arith}
 use Rattle.std.specs.List.{AllByRecursion as All}
 use Rattle.std.proofs.ByRecursion.{All-weaker}
 use Rattle.std.proofs.lemmas.Bool.{true≢false, false≢true, le-leb, eqb-true, eq-eqb}
-use Rattle.meaning.specs.Claims.{GoesOn}
-use Rattle.meaning.specs.Life.{Agrees, OnlyEight, lives}
+use Rattle.meaning.specs.Claims.{GoesOn, History}
+use Rattle.meaning.specs.Life.{Agrees, OnlyEight, is_refused, lives}
 use Rattle.meaning.specs.Plan.{Shows, State, does, says, settled, state_after}
 use Rattle.meaning.specs.Problems.{Problem, all_use, allowed_sets, fitting, has_at, in_range, is_empty, kinds_of, short, support, uses, without}
 use Rattle.meaning.specs.Register.{Call, Register, after, answers, loads_of, rule_out, start, step}
-use Rattle.model.specs.Answers.{Answer, accepted, refuse}
+use Rattle.model.specs.Answers.{Answer, accepted, refuse, refused}
 use Rattle.model.specs.Sets.{has}
 use Rattle.meaning.proofs.Lists.{and_both, every_all, all_every}
 use Rattle.meaning.proofs.Standing.{support_has}
@@ -71,6 +71,15 @@ next_rule c s r sh i d f b h k l long st =
     (All-weaker (λ load. get_or load (i - 1) 0 ≡ d) (λ load. has_at load (i - 1) d ≡ true) (λ load e. eq-eqb (get_or load (i - 1) 0) d e) (loads_of c r.ruled) z))
     w
 
+-- so a rule out is refused 8 exactly where P holds
+alone_eight : {P : Type 0} (a : Answer) → OnlyEight P a → (a ≡ refused 8) ↔ P
+alone_eight a o = (λ e. o.exactly.0 (ap is_refused e), λ p. o.eight (o.exactly.1 p))
+
+pub last_way : (c : Problem) (s : State) (r : Register) → Shows c s r → (i d f b : ℕ) → 1 ≤ i → i ≤ kinds_of c → d < 64 → short c f b ≡ false
+    → has (get_or s.standing (i - 1) 0) d ≡ true
+    → ((does c s (rule_out i d f b)).1 ≡ refused 8) ↔ All (λ load. get_or load (i - 1) 0 ≡ d) (loads_of c r.ruled)
+last_way c s r sh i d f b h k l long st = alone_eight (does c s (rule_out i d f b)).1 (next_rule c s r sh i d f b h k l long st)
+
 -- a state that shows a register agrees with it
 pub agree : (c : Problem) (s : State) (r : Register) → Shows c s r → Agrees c (lives c s) r
 agree c s r sh = record { shown = sh; stands = stands c s r sh; next = next_rule c s r sh }
@@ -80,3 +89,12 @@ pub goes_on : (c : Problem) (calls : List Call) → is_empty (fitting c (allowed
 goes_on c calls live =
     let m = run_shows c (settled c) start calls (settled_shows c live) in
     record { answered = m.1; agrees = agree c (state_after c (settled c) calls) (after c start calls) m.0 }
+
+pub history : (c : Problem) (calls : List Call) → is_empty (fitting c (allowed_sets c)) ≡ false → History c calls
+history c calls live =
+    let m = run_shows c (settled c) start calls (settled_shows c live) in
+    record {
+      answered = m.1;
+      stands = stands c (state_after c (settled c) calls) (after c start calls) m.0;
+      last_way = last_way c (state_after c (settled c) calls) (after c start calls) m.0;
+    }

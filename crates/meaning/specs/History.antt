@@ -31,7 +31,7 @@ tally_after m c xs values =
 
 -- What the register says of a history: each call got its answer; what stands, and what a rule out that comes next would be told,
 -- is as its loads say; the tally is over exactly its loads; and as many branches are open.
-pub record ByRegister {V : Type 0} (m : Means V) (c : Problem) (xs : List Call) (values : ℕ) (last : Life) (said : List (Option Answer)) (tally : Outcome V) (opened : ℕ) : Type 0 where
+pub record ToldByRegister {V : Type 0} (m : Means V) (c : Problem) (xs : List Call) (values : ℕ) (last : Life) (said : List (Option Answer)) (tally : Outcome V) (opened : ℕ) : Type 0 where
   pub answered : said ≡ map Some (answers c start xs)
   pub agrees : Agrees c last (after c start xs)
   pub tally_is : tally ≡ tally_after m c xs values
@@ -40,10 +40,10 @@ pub record ByRegister {V : Type 0} (m : Means V) (c : Problem) (xs : List Call) 
 -- a history that settle refused has no register
 abbrev pub Tells : {V : Type 0} → Means V → Problem → List Call → ℕ → Life → List (Option Answer) → Ending V → Type 0
 Tells m c xs values last said (unsettled k) = Unit {0}
-Tells m c xs values last said (lived n tally opened) = ByRegister m c xs values last said tally opened
+Tells m c xs values last said (lived n tally opened) = ToldByRegister m c xs values last said tally opened
 
 -- A history went and ended as defined, and where the plan lived, the register tells of it.
-pub record History {V : Type 0} (m : Means V) (before : Life) (kinds : List Kind) (forward backward : ℕ) (xs : List Call) (values : ℕ) (last : Life) (said : List (Option Answer)) (e : Ending V) : Type 0 where
+pub record WholeHistory {V : Type 0} (m : Means V) (before : Life) (kinds : List Kind) (forward backward : ℕ) (xs : List Call) (values : ℕ) (last : Life) (said : List (Option Answer)) (e : Ending V) : Type 0 where
   pub life : last ≡ (lived_through m before kinds forward backward xs values).0
   pub ending : e ≡ (lived_through m before kinds forward backward xs values).1
   pub tells : Tells m (problem (goal_of before) kinds) xs values last said e

@@ -6,7 +6,7 @@ use Rattle.meaning.specs.Measures.{Means}
 use Rattle.meaning.specs.Models.{yes_no}
 use Rattle.meaning.specs.Plan.{Shows, State, does, settled}
 use Rattle.meaning.specs.Problems.{Problem, allowed_sets, fitting, is_empty, kinds_of, needed, short, uses}
-use Rattle.meaning.specs.Register.{Call, Register, loads_of, rule_out, start, step}
+use Rattle.meaning.specs.Register.{Call, Register, after, answers, loads_of, rule_out, start, step}
 use Rattle.meaning.specs.Tallies.{tally_of, tally_over}
 use Rattle.model.specs.Answers.{Answer, Outcome, accepted, refuse, refused}
 use Rattle.model.specs.Goals.{Target}
@@ -135,6 +135,27 @@ life_after l (x ∷ xs) = life_after (act l x).0 xs
 abbrev pub replies : Life → List Call → List Answer
 replies l [] = []
 replies l (x ∷ xs) = (act l x).1 ∷ replies (act l x).0 xs
+
+-- Whatever register the plan showed: after the calls it shows the register after them, and the answers are the register's; a count
+-- stands exactly when some load of that register has it; and the next rule out, of a count that stands and with tables long
+-- enough, would be refused 8 exactly when every load of that register has it.
+pub record Told (c : Problem) (r : Register) (xs : List Call) (last : Life) (said : List Answer) : Type 0 where
+  pub shown : Shown last (after c r xs)
+  pub answered : said ≡ answers c r xs
+  pub stands : (i d : ℕ) → 1 ≤ i → i ≤ kinds_of c → d < 64
+      → has (slice_index (standing_of last) (i - 1)) d ≡ uses (loads_of c (after c r xs).ruled) (i - 1) d
+  pub last_way : (i d forward backward : ℕ) → 1 ≤ i → i ≤ kinds_of c → d < 64 → short c forward backward ≡ false
+      → has (slice_index (standing_of last) (i - 1)) d ≡ true
+      → ((act last (rule_out i d forward backward)).1 ≡ refused 8) ↔ All (λ load. slice_index load (i - 1) ≡ d) (loads_of c (after c r xs).ruled)
+
+abbrev pub ToldAll : Life → List Call → Life → List Answer → Type 0
+ToldAll (blank g) xs last said = Unit {0}
+ToldAll (lives c s) xs last said = (r : Register) → Shows c s r → Told c r xs last said
+
+pub record Ran (before : Life) (xs : List Call) (last : Life) (said : List Answer) : Type 0 where
+  pub life : last ≡ life_after before xs
+  pub says : said ≡ replies before xs
+  pub told : ToldAll before xs last said
 
 -- the call was refused
 abbrev pub is_refused : Answer → Bool

@@ -1,7 +1,7 @@
 // The meaning of plans: definitions in specs/, theorems proved for them.
 #![tactic(auto)]
 
-ghost use Rattle.meaning.specs.Claims.{StandingLoads, CallShows, HistoryStands, SetsSound};
+ghost use Rattle.meaning.specs.Claims.{StandingLoads, CallShows, HistoryStands, HistoryAgrees, RunsTold, SetsSound};
 ghost use Rattle.meaning.specs.Finding.{RunsRight};
 ghost use Rattle.meaning.specs.Paths.{MarksAndLoads};
 ghost use Rattle.meaning.specs.Strike.{StrikeTells};
@@ -18,7 +18,9 @@ pub fn call_shows()
 
 // After any calls from a settle on, the answers and the counts that stand are what the register says.
 pub fn history_stands()
-    ensures { HistoryStands }
+    ensures stands { HistoryStands }
+    ensures agrees { HistoryAgrees }
+    ensures told { RunsTold }
 {}
 
 // The standing sets are never empty, and each lies within the sets that every open branch noted.

@@ -2,7 +2,7 @@
 ghost use Rattle.std.specs.Prelude.{◌≡◌, ℕ, map, length, Some};
 ghost use Rattle.model.specs.Answers.{answer_of, outcome_back};
 ghost use Rattle.model.specs.Cases.{kinds_in};
-ghost use Rattle.meaning.specs.History.{History, marked_by, tallied_by};
+ghost use Rattle.meaning.specs.History.{WholeHistory, marked_by, tallied_by};
 ghost use Rattle.meaning.specs.Life.{backward_marks, forward_marks, life_after, replies, Called, Remarks};
 ghost use Rattle.meaning.specs.Register.{branch as Opening, keep as Keeping, rule_out as RulingOut, withdraw as Withdrawing};
 ghost use Rattle.plan.specs.Entries.{Untried, answers_in, asked, calls_in, calls_of, ending_of, reply_of};
@@ -148,7 +148,7 @@ impl<G: Goal + Drop> Plan<G> {
         forward: &mut [u8],
         backward: &mut [u8],
     ) -> Result<Lived<M::Value>, Refusal>
-        ensures tells { History M.Measure.means (life G.Goal.means self.old) (kinds_in case.now) (length forward.old) (length backward.old) (calls_in (length forward.old) (length backward.old) entries.old) (length values.old) (life G.Goal.means self.new) (answers_in entries.new) (ending_of result) }
+        ensures tells { WholeHistory M.Measure.means (life G.Goal.means self.old) (kinds_in case.now) (length forward.old) (length backward.old) (calls_in (length forward.old) (length backward.old) entries.old) (length values.old) (life G.Goal.means self.new) (answers_in entries.new) (ending_of result) }
         ensures goal { self.new.goal ≡ self.old.goal }
         ensures entries { Untried (ending_of result) entries.old entries.new }
         ensures values { values.new ≡ tallied_by M.Measure.means (life G.Goal.means self.new) (ending_of result) values.old }
