@@ -1,7 +1,7 @@
 -- Numbers as bytes.
 use Rattle.std.proofs.Common.{◌≡◌, ℕ, zero, suc, ◌+◌, ◌*◌, ◌/◌, ◌%◌, ◌<◌, ◌≤◌, List, [], ◌∷◌, ◌++◌, length, get_or, take, drop, sym, refl, ap, ◌∙◌, div-add-mod', arith, take-append-drop, drop-cons}
 use lib.Arith.{digits_div, digits_mod}
-use Rattle.std.specs.List.{AllByRecursion as All}
+use Rattle.std.specs.List.{AllByRecursion}
 use Rattle.fields.specs.Values.{bytes2, bytes4, bytes8, pairs}
 use Rattle.fields.specs.Reading.{totals, Bytes}
 
@@ -66,7 +66,7 @@ pairs_totals (a ∷ b ∷ bs) h by =
     let again : pairs (totals bs) ≡ bs = pairs_totals bs (omega arith) (λ k. by (suc (suc k))) in
     rw (digits_div a low, digits_mod a low, again)
 
-pub totals_fine : (bs : List ℕ) → Bytes bs → All (λ n. n < 65536) (totals bs)
+pub totals_fine : (bs : List ℕ) → Bytes bs → AllByRecursion (λ n. n < 65536) (totals bs)
 totals_fine [] by = tt
 totals_fine (a ∷ []) by = tt
 totals_fine (a ∷ b ∷ bs) by = (omega (arith, by 0, by 1), totals_fine bs (λ k. by (suc (suc k))))

@@ -4,7 +4,7 @@ use lib.Seq.{drop-append_seam}
 use Rattle.std.proofs.lemmas.Bool.{ltb-false, le-ltb, eq-eqb, eqb-true, leb-true, le-leb, and_from, and_parts, cond-true, cond-false}
 use Rattle.fields.specs.declared.field.Cause.{Cause}
 use Rattle.fields.specs.declared.field.Cause.TheVariants.{Short, UnknownTag, WrongLength}
-use Rattle.std.specs.List.{AllByRecursion as All}
+use Rattle.std.specs.List.{AllByRecursion}
 use Rattle.fields.specs.Values.{Value, kind, band, list, stride, rule_out_field, end, pairs, field, write, Fine}
 use Rattle.fields.specs.Fields.{two, eight, right_length}
 use Rattle.fields.specs.Reading.{totals, value, First, bad, got, first, Bytes, Stop, broken, closed, Fields, is_end, onward, fields_by, fields, Open, Left, Ends, Walk}
@@ -247,7 +247,7 @@ fields_end bytes v rest e o = fields_onward bytes ∙ (ap (onward fields) e ∙ 
 pub fields_bad : (bytes : List ℕ) (c : Cause) → first bytes ≡ bad c → fields bytes ≡ record { values = []; stop = broken c }
 fields_bad bytes c e = fields_onward bytes ∙ ap (onward fields) e
 
-reads_past : (vs ws : List Value) (tail : List ℕ) (s : Stop) → fields tail ≡ record { values = ws; stop = s } → All Fine vs → Open vs
+reads_past : (vs ws : List Value) (tail : List ℕ) (s : Stop) → fields tail ≡ record { values = ws; stop = s } → AllByRecursion Fine vs → Open vs
     → fields (write vs ++ tail) ≡ record { values = vs ++ ws; stop = s }
 reads_past [] ws tail s e fine free = e
 reads_past (v ∷ vs) ws tail s e fine free =
@@ -256,18 +256,18 @@ reads_past (v ∷ vs) ws tail s e fine free =
     fields_more ((field v ++ write vs) ++ tail) v (write vs ++ tail) f free.0
     ∙ ap (λ (a : Fields). record { values = v ∷ a.values; stop = a.stop }) (reads_past vs ws tail s e fine.1 free.1)
 
-pub reads : (vs : List Value) (rest : List ℕ) → All Fine vs → Open vs
+pub reads : (vs : List Value) (rest : List ℕ) → AllByRecursion Fine vs → Open vs
     → fields (write vs ++ (field end ++ rest)) ≡ record { values = vs ++ (end ∷ []); stop = closed rest }
 reads vs rest fine free =
     reads_past vs (end ∷ []) (field end ++ rest) (closed rest) (fields_end (field end ++ rest) end rest (one end rest tt) refl) fine free
 
-pub breaks : (vs : List Value) (rest : List ℕ) (c : Cause) → All Fine vs → Open vs → first rest ≡ bad c
+pub breaks : (vs : List Value) (rest : List ℕ) (c : Cause) → AllByRecursion Fine vs → Open vs → first rest ≡ bad c
     → fields (write vs ++ rest) ≡ record { values = vs; stop = broken c }
 breaks vs rest c fine free e =
     reads_past vs [] rest (broken c) (fields_bad rest c e) fine free ∙ simp append-nil
 
 abbrev Wrote : List ℕ → Fields → Type 0
-Wrote bytes f = (rest : List ℕ) × (bytes ≡ write f.values ++ rest) × Left f.stop rest × All Fine f.values × Ends f.stop f.values
+Wrote bytes f = (rest : List ℕ) × (bytes ≡ write f.values ++ rest) × Left f.stop rest × AllByRecursion Fine f.values × Ends f.stop f.values
 
 true_not : {A : Type 0} → ◌≡◌ {A = Bool} false true → A
 true_not e = let z : ◌≡◌ {A = ℕ} 0 1 = cc in absurd (omega (arith, z))
@@ -315,7 +315,7 @@ wrote_by (suc n) bytes h by = wrote_at bytes n by (wrote_by n) h (first bytes) r
 pub wrote : (bytes : List ℕ) → Bytes bytes → Wrote bytes (fields bytes)
 wrote bytes by = wrote_by (length bytes) bytes (omega arith) by
 
-pub walks : (vs : List Value) (front rest : List ℕ) → All Fine vs → Walk (front ++ (write vs ++ rest)) (length front) vs
+pub walks : (vs : List Value) (front rest : List ℕ) → AllByRecursion Fine vs → Walk (front ++ (write vs ++ rest)) (length front) vs
 walks [] front rest fine = tt
 walks (v ∷ vs) front rest fine =
     let tail = write vs ++ rest in

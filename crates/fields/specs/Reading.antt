@@ -5,7 +5,7 @@ use Rattle.fields.specs.declared.field.Cause.TheVariants.{Short, UnknownTag, Wro
 use Rattle.fields.specs.declared.field.FieldFault.{FieldFault}
 use Rattle.fields.specs.declared.field.Field.{Field}
 use Rattle.fields.specs.declared.field.Field.TheVariants.{Kind, Band, List as Totals, Stride, RuleOut, End}
-use Rattle.std.specs.List.{AllByRecursion as All}
+use Rattle.std.specs.List.{AllByRecursion}
 use Rattle.fields.specs.Values.{Value, kind, band, list, stride, rule_out_field, end, field, write, Fine}
 use Rattle.fields.specs.Fields.{two, eight, right_length}
 
@@ -94,7 +94,7 @@ fields bytes = fields_by (length bytes) bytes
 
 -- none of the values is the end
 abbrev pub Open : List Value → Type 0
-Open vs = All (λ v. is_end v ≡ false) vs
+Open vs = AllByRecursion (λ v. is_end v ≡ false) vs
 
 -- what stands where the fields stop: a field with that fault, or the bytes past the end field
 abbrev pub Left : Stop → List ℕ → Type 0
@@ -118,14 +118,14 @@ pub record Inverse : Type 0 where
   -- what is read without fault was written
   pub back : (bytes : List ℕ) (v : Value) (rest : List ℕ) → Bytes bytes → first bytes ≡ got v rest → (bytes ≡ field v ++ rest) × Fine v
   -- the writing of any fields, with an end after them and whatever bytes follow, reads as exactly those fields
-  pub reads : (vs : List Value) (rest : List ℕ) → All Fine vs → Open vs
+  pub reads : (vs : List Value) (rest : List ℕ) → AllByRecursion Fine vs → Open vs
       → fields (write vs ++ (field end ++ rest)) ≡ record { values = vs ++ (end ∷ []); stop = closed rest }
   -- and with a fault after them, as those fields up to the fault
-  pub breaks : (vs : List Value) (rest : List ℕ) (c : Cause) → All Fine vs → Open vs → first rest ≡ bad c
+  pub breaks : (vs : List Value) (rest : List ℕ) (c : Cause) → AllByRecursion Fine vs → Open vs → first rest ≡ bad c
       → fields (write vs ++ rest) ≡ record { values = vs; stop = broken c }
   -- whatever the bytes are, those before the stop are the writing of exactly the fields read
   pub wrote : (bytes : List ℕ) → Bytes bytes
-      → (rest : List ℕ) × (bytes ≡ write (fields bytes).values ++ rest) × Left (fields bytes).stop rest × All Fine (fields bytes).values
+      → (rest : List ℕ) × (bytes ≡ write (fields bytes).values ++ rest) × Left (fields bytes).stop rest × AllByRecursion Fine (fields bytes).values
       × Ends (fields bytes).stop (fields bytes).values
   -- wherever fields are written in a file, reading from there on gives them, each at its own place
-  pub walks : (vs : List Value) (front rest : List ℕ) → All Fine vs → Walk (front ++ (write vs ++ rest)) (length front) vs
+  pub walks : (vs : List Value) (front rest : List ℕ) → AllByRecursion Fine vs → Walk (front ++ (write vs ++ rest)) (length front) vs

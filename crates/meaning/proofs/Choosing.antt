@@ -1,7 +1,7 @@
 -- The recurrence gives the tallies of all choices.
 use Rattle.std.proofs.Common.{◌≡◌, ℕ, zero, suc, ◌+◌, ◌-◌, ◌*◌, ◌<◌, ◌≤◌, Bool, true, false, cond, T, eqb, ltb, leb, ◌⊎◌, List, [], ◌∷◌, map, length, get_or, take, drop, fold, filter, sym, refl, ap, ◌∙◌, subst, inl, inr, arith}
 use Rattle.std.proofs.lemmas.List.{take_all, drop_all}
-use Rattle.std.specs.List.{range_with_len, AllByRecursion as All}
+use Rattle.std.specs.List.{range_with_len, AllByRecursion}
 use Rattle.std.proofs.lemmas.Bool.{cases_lt, cases_eq, cond-true, cond-false, le-leb, lt-leb, eq-eqb, ne_eqb, cases_Bool, lt-ltb}
 use Rattle.std.proofs.ByRecursion.{all_kept_by, All-map, All-weaker, All-take, All-drop}
 use Rattle.meaning.specs.Cells.{Holds, over, tallies, tallies_back}
@@ -23,13 +23,13 @@ next a t h ne = elim (cases_le a t h) [ inl e ↦ absurd (ne e) | inr l ↦ omeg
 
 module _ {V : Type 0} (m : Means V) (laws : Laws m) where
   -- the chains of worths are values of the measure, with one count d more in front too
-  has_longer : (p : Part) → Cheap p → (ps : List Part) (cs : List (List ℕ)) → All (λ c. m.has (chain_of m ps c)) cs → (d : ℕ) → d < 64 → All (λ c. m.has (chain_of m (p ∷ ps) c)) (map (λ c. d ∷ c) cs)
+  has_longer : (p : Part) → Cheap p → (ps : List Part) (cs : List (List ℕ)) → AllByRecursion (λ c. m.has (chain_of m ps c)) cs → (d : ℕ) → d < 64 → AllByRecursion (λ c. m.has (chain_of m (p ∷ ps) c)) (map (λ c. d ∷ c) cs)
   has_longer p cheap ps cs a d low =
       All-map (λ c. m.has (chain_of m (p ∷ ps) c)) (λ c. d ∷ c) cs
       (All-weaker (λ c. m.has (chain_of m ps c)) (λ c. m.has (chain_of m (p ∷ ps) (d ∷ c)))
       (λ c h. laws.has_chain (m.worth p.price d) (chain_of m ps c) (laws.has_worth p.price d cheap low) h) cs a)
 
-  pub has_chains : (ps : List Part) → All Cheap ps → All (λ c. m.has (chain_of m ps c)) (choices_of ps)
+  pub has_chains : (ps : List Part) → AllByRecursion Cheap ps → AllByRecursion (λ c. m.has (chain_of m ps c)) (choices_of ps)
   unfolding choices
   has_chains [] a = (laws.has_one, tt)
   has_chains (p ∷ ps) a =
@@ -93,7 +93,7 @@ module _ {V : Type 0} (m : Means V) (laws : Laws m) where
       (λ d low. longer f hf b (p.size * d) t (m.worth p.price d) v (laws.has_worth p.price d cheap low) hv) ds (members_below p.standing)
 
   -- the rows from any row f on
-  pub rows_from : (ps : List Part) → All Cheap ps → (f : ℕ → V) → ((b : ℕ) → m.has (f b)) → (b : ℕ) → fold (row_after m) f ps b ≡ S m (λ c. from f b (total_of ps c) (chain_of m ps c)) (choices_of ps)
+  pub rows_from : (ps : List Part) → AllByRecursion Cheap ps → (f : ℕ → V) → ((b : ℕ) → m.has (f b)) → (b : ℕ) → fold (row_after m) f ps b ≡ S m (λ c. from f b (total_of ps c) (chain_of m ps c)) (choices_of ps)
   unfolding choices
   rows_from [] a f hf b =
       sym (laws.join_zero (from f b 0 m.one) (has_from f hf b 0 m.one laws.has_one)
@@ -104,7 +104,7 @@ module _ {V : Type 0} (m : Means V) (laws : Laws m) where
       let cheap = a.0 in
       let cs = choices_of ps in
       let ds = members p.standing in
-      let chains : All (λ c. m.has (chain_of m ps c)) cs = has_chains ps a.1 in
+      let chains : AllByRecursion (λ c. m.has (chain_of m ps c)) cs = has_chains ps a.1 in
       rows_from ps a.1 (row_after m f p) (has_row f hf p cheap) b
       ∙ S_same m (λ c. m.has (chain_of m ps c)) (λ c. from (row_after m f p) b (total_of ps c) (chain_of m ps c)) (λ c. S m (λ d. from f b (total_of (p ∷ ps) (d ∷ c)) (chain_of m (p ∷ ps) (d ∷ c))) ds) (λ c h. spread f hf p cheap b (total_of ps c) (chain_of m ps c) h) cs chains
       ∙ S_swap m laws (λ c. m.has (chain_of m ps c)) (λ d. d < 64) (λ c d. from f b (total_of (p ∷ ps) (d ∷ c)) (chain_of m (p ∷ ps) (d ∷ c)))
@@ -136,18 +136,18 @@ module _ {V : Type 0} (m : Means V) (laws : Laws m) where
       ]
 
   -- THE THEOREM: the recurrence gives the join over all choices totalling b of the chains of their worths
-  pub cell_is_tally : (ps : List Part) → All Cheap ps → (b : ℕ) → cell_of m ps b ≡ tally_at m ps b
+  pub cell_is_tally : (ps : List Part) → AllByRecursion Cheap ps → (b : ℕ) → cell_of m ps b ≡ tally_at m ps b
   unfolding cell_of tally_by
   cell_is_tally ps a b =
       let has = λ (c : List ℕ). m.has (chain_of m ps c) in
       let test = λ (c : List ℕ). eqb (total_of ps c) b in
-      let chains : All (λ c. m.has (chain_of m ps c)) (choices_of ps) = has_chains ps a in
+      let chains : AllByRecursion (λ c. m.has (chain_of m ps c)) (choices_of ps) = has_chains ps a in
       rows_from ps a (first_row m) has_first b
       ∙ S_same m has (λ c. from (first_row m) b (total_of ps c) (chain_of m ps c)) (λ c. cond (test c) (chain_of m ps c) m.zero) (λ c h. first b (total_of ps c) (chain_of m ps c) h) (choices_of ps) chains
       ∙ sym (join_of_S m laws has (chain_of m ps) (λ c h. h) (filter test (choices_of ps)) (all_kept_by test has (choices_of ps) chains)
       ∙ S_kept m laws has test (chain_of m ps) (λ c h. h) (choices_of ps) chains)
 
-  pub tallied : (ps : List Part) → All Cheap ps → (w n : ℕ) (before after : List V) → 0 < w → length ps ≡ n → length after ≡ length before → (n + 1) * w ≤ length before → FilledTo m ps w n before after → after ≡ over (tallies m ps w) before
+  pub tallied : (ps : List Part) → AllByRecursion Cheap ps → (w n : ℕ) (before after : List V) → 0 < w → length ps ≡ n → length after ≡ length before → (n + 1) * w ≤ length before → FilledTo m ps w n before after → after ≡ over (tallies m ps w) before
   tallied ps a w n before after pos e long room filled =
       let P : ℕ → Type 0 = λ k. (k + 1) * w ≤ length before in
       grid_over m.zero (length ps + 1) w (λ i b. tally_at m (take i ps) b) before after pos long (subst P (sym e) room)
@@ -176,7 +176,7 @@ module _ {V : Type 0} (m : Means V) (laws : Laws m) where
             ∙ sym (cond-false (admitted (b + (s + t))) _ _ (ap admitted (sym place) ∙ n))
       ]
 
-  has_back : (admitted : ℕ → Bool) (w : ℕ) → ((t : ℕ) → admitted t ≡ true → t < w) → (ps : List Part) → All Cheap ps → (b : ℕ) → m.has (back_of m admitted w ps b)
+  has_back : (admitted : ℕ → Bool) (w : ℕ) → ((t : ℕ) → admitted t ≡ true → t < w) → (ps : List Part) → AllByRecursion Cheap ps → (b : ℕ) → m.has (back_of m admitted w ps b)
   unfolding back_of last_row row_before
   has_back admitted w bound [] a b = has_cond m laws (admitted b) m.one laws.has_one
   has_back admitted w bound (p ∷ ps) a b =
@@ -186,7 +186,7 @@ module _ {V : Type 0} (m : Means V) (laws : Laws m) where
       let P : V → Type 0 = λ v. m.has v in
       subst P (sym (join_of_S m laws (λ d. d < 64) f hf (counts_past p w b) below)) (has_S m laws (λ d. d < 64) f hf (counts_past p w b) below)
 
-  pub rows_back_lem : (admitted : ℕ → Bool) (w : ℕ) → ((t : ℕ) → admitted t ≡ true → t < w) → (ps : List Part) → All Cheap ps → (b : ℕ) → back_of m admitted w ps b ≡ S m (λ c. past admitted b (total_of ps c) (chain_of m ps c)) (choices_of ps)
+  pub rows_back_lem : (admitted : ℕ → Bool) (w : ℕ) → ((t : ℕ) → admitted t ≡ true → t < w) → (ps : List Part) → AllByRecursion Cheap ps → (b : ℕ) → back_of m admitted w ps b ≡ S m (λ c. past admitted b (total_of ps c) (chain_of m ps c)) (choices_of ps)
   unfolding choices back_of last_row row_before
   rows_back_lem admitted w bound [] a b =
       sym (laws.join_zero (past admitted b 0 m.one) (has_cond m laws (admitted (b + 0)) m.one laws.has_one) ∙ ap (λ t. cond (admitted t) m.one m.zero) (omega arith))
@@ -195,7 +195,7 @@ module _ {V : Type 0} (m : Means V) (laws : Laws m) where
       let cs = choices_of ps in
       let ds = members p.standing in
       let low = members_below p.standing in
-      let chains : All (λ c. m.has (chain_of m ps c)) cs = has_chains ps a.1 in
+      let chains : AllByRecursion (λ c. m.has (chain_of m ps c)) cs = has_chains ps a.1 in
       join_of_S m laws (λ d. d < 64) (λ d. m.chain (m.worth p.price d) (back_of m admitted w ps (b + p.size * d)))
       (λ d l. laws.has_chain _ _ (laws.has_worth p.price d cheap l) (has_back admitted w bound ps a.1 (b + p.size * d)))
       (counts_past p w b) (all_kept_by (λ d. ltb (b + p.size * d) w) (λ d. d < 64) ds low)
@@ -216,17 +216,17 @@ module _ {V : Type 0} (m : Means V) (laws : Laws m) where
       (λ c h. has_cond m laws (admitted (b + total_of (p ∷ ps) c)) (chain_of m (p ∷ ps) c) h)
       (λ d. map (λ c. d ∷ c) cs) (has_longer p cheap ps cs chains) ds low)
 
-  pub back_is_tally : (admitted : ℕ → Bool) (w : ℕ) → ((t : ℕ) → admitted t ≡ true → t < w) → (ps : List Part) → All Cheap ps → (b : ℕ) → back_of m admitted w ps b ≡ tally_past m admitted ps b
+  pub back_is_tally : (admitted : ℕ → Bool) (w : ℕ) → ((t : ℕ) → admitted t ≡ true → t < w) → (ps : List Part) → AllByRecursion Cheap ps → (b : ℕ) → back_of m admitted w ps b ≡ tally_past m admitted ps b
   unfolding tally_by
   back_is_tally admitted w bound ps a b =
       let has = λ (c : List ℕ). m.has (chain_of m ps c) in
       let test = λ (c : List ℕ). admitted (b + total_of ps c) in
-      let chains : All (λ c. m.has (chain_of m ps c)) (choices_of ps) = has_chains ps a in
+      let chains : AllByRecursion (λ c. m.has (chain_of m ps c)) (choices_of ps) = has_chains ps a in
       rows_back_lem admitted w bound ps a b
       ∙ sym (join_of_S m laws has (chain_of m ps) (λ c h. h) (filter test (choices_of ps)) (all_kept_by test has (choices_of ps) chains)
       ∙ S_kept m laws has test (chain_of m ps) (λ c h. h) (choices_of ps) chains)
 
-  pub tallied_back : (admitted : ℕ → Bool) (w : ℕ) → ((t : ℕ) → admitted t ≡ true → t < w) → (ps : List Part) → All Cheap ps → (n : ℕ) (before after : List V) → 0 < w → length ps ≡ n → length after ≡ length before → (n + 1) * w ≤ length before → FilledFrom m admitted ps w 0 before after → after ≡ over (tallies_back m admitted ps w) before
+  pub tallied_back : (admitted : ℕ → Bool) (w : ℕ) → ((t : ℕ) → admitted t ≡ true → t < w) → (ps : List Part) → AllByRecursion Cheap ps → (n : ℕ) (before after : List V) → 0 < w → length ps ≡ n → length after ≡ length before → (n + 1) * w ≤ length before → FilledFrom m admitted ps w 0 before after → after ≡ over (tallies_back m admitted ps w) before
   tallied_back admitted w bound ps a n before after pos e long room filled =
       let P : ℕ → Type 0 = λ k. (k + 1) * w ≤ length before in
       grid_over m.zero (length ps + 1) w (λ i b. tally_past m admitted (drop i ps) b) before after pos long (subst P (sym e) room)
@@ -240,15 +240,15 @@ module _ {V : Type 0} (m : Means V) (laws : Laws m) where
       ∙ ap (λ qs. tally_past m admitted qs b) (drop_all n ps (omega arith)) ∙ sym (back_is_tally admitted w bound [] tt b)
 
   -- the tally at b, as a join over all choices, and as a value of the measure
-  tally_S : (t : List ℕ → Bool) (ps : List Part) → All Cheap ps → tally_by m t ps ≡ S m (λ c. cond (t c) (chain_of m ps c) m.zero) (choices_of ps)
+  tally_S : (t : List ℕ → Bool) (ps : List Part) → AllByRecursion Cheap ps → tally_by m t ps ≡ S m (λ c. cond (t c) (chain_of m ps c) m.zero) (choices_of ps)
   unfolding tally_by
   tally_S t ps a =
       let has = λ (c : List ℕ). m.has (chain_of m ps c) in
-      let chains : All (λ c. m.has (chain_of m ps c)) (choices_of ps) = has_chains ps a in
+      let chains : AllByRecursion (λ c. m.has (chain_of m ps c)) (choices_of ps) = has_chains ps a in
       join_of_S m laws has (chain_of m ps) (λ c h. h) (filter t (choices_of ps)) (all_kept_by t has (choices_of ps) chains)
       ∙ S_kept m laws has t (chain_of m ps) (λ c h. h) (choices_of ps) chains
 
-  pub has_tally : (t : List ℕ → Bool) (ps : List Part) → All Cheap ps → m.has (tally_by m t ps)
+  pub has_tally : (t : List ℕ → Bool) (ps : List Part) → AllByRecursion Cheap ps → m.has (tally_by m t ps)
   has_tally t ps a =
       let P : V → Type 0 = λ v. m.has v in
       subst P (sym (tally_S t ps a)) (has_S m laws (λ c. m.has (chain_of m ps c)) (λ c. cond (t c) (chain_of m ps c) m.zero) (λ c h. has_cond m laws (t c) (chain_of m ps c) h) (choices_of ps) (has_chains ps a))
@@ -292,12 +292,12 @@ module _ {V : Type 0} (m : Means V) (laws : Laws m) where
       ]
 
   -- THE TALLY OF A PLAN: the admitted places of the last row, joined, are the join over all countsTo loads
-  pub row_is_tally : (admitted : ℕ → Bool) (w : ℕ) → ((t : ℕ) → admitted t ≡ true → t < w) → (ps : List Part) → All Cheap ps → join_of m (map (tally_at m ps) (filter admitted (range_with_len 0 w))) ≡ tally_of m admitted ps
+  pub row_is_tally : (admitted : ℕ → Bool) (w : ℕ) → ((t : ℕ) → admitted t ≡ true → t < w) → (ps : List Part) → AllByRecursion Cheap ps → join_of m (map (tally_at m ps) (filter admitted (range_with_len 0 w))) ≡ tally_of m admitted ps
   row_is_tally admitted w bound ps a =
       let any = λ (b : ℕ). b < w in
       let cnt = range_with_len 0 w in
-      let all : All (λ b. b < w) cnt = counting_below 0 w w (omega arith) in
-      let chains : All (λ c. m.has (chain_of m ps c)) (choices_of ps) = has_chains ps a in
+      let all : AllByRecursion (λ b. b < w) cnt = counting_below 0 w w (omega arith) in
+      let chains : AllByRecursion (λ c. m.has (chain_of m ps c)) (choices_of ps) = has_chains ps a in
       let ht : (b : ℕ) → b < w → m.has (tally_at m ps b) = λ b l. has_tally (λ c. eqb (total_of ps c) b) ps a in
       join_of_S m laws any (tally_at m ps) ht (filter admitted cnt) (all_kept_by admitted any cnt all)
       ∙ S_kept m laws any admitted (tally_at m ps) ht cnt all
@@ -309,12 +309,12 @@ module _ {V : Type 0} (m : Means V) (laws : Laws m) where
       (λ c h. pick admitted w bound (total_of ps c) (chain_of m ps c) h) (choices_of ps) chains
       ∙ sym (tally_S (λ c. admitted (total_of ps c)) ps a)
 
-  map_all : (P : ℕ → Type 0) (f g : ℕ → V) → ((x : ℕ) → P x → f x ≡ g x) → (xs : List ℕ) → All P xs → map f xs ≡ map g xs
+  map_all : (P : ℕ → Type 0) (f g : ℕ → V) → ((x : ℕ) → P x → f x ≡ g x) → (xs : List ℕ) → AllByRecursion P xs → map f xs ≡ map g xs
   map_all P f g e [] a = refl
   map_all P f g e (x ∷ xs) a = ap (λ y. y ∷ map f xs) (e x a.0) ∙ ap (λ ys. g x ∷ ys) (map_all P f g e xs a.1)
 
   -- the answer of `tally`, from what the table holds
-  pub row_answers : (admitted : ℕ → Bool) (w u : ℕ) → ((t : ℕ) → admitted t ≡ true → t < w) → (ps : List Part) → All Cheap ps → (n : ℕ) → length ps ≡ n → (cells : List V) → Holds (tallies m ps w) cells → u ≡ w → join_of m (map (λ b. get_or cells (n * u + b) m.zero) (filter admitted (range_with_len 0 u))) ≡ tally_of m admitted ps
+  pub row_answers : (admitted : ℕ → Bool) (w u : ℕ) → ((t : ℕ) → admitted t ≡ true → t < w) → (ps : List Part) → AllByRecursion Cheap ps → (n : ℕ) → length ps ≡ n → (cells : List V) → Holds (tallies m ps w) cells → u ≡ w → join_of m (map (λ b. get_or cells (n * u + b) m.zero) (filter admitted (range_with_len 0 u))) ≡ tally_of m admitted ps
   row_answers admitted w u bound ps a n e cells held same =
       ap (λ v. join_of m (map (λ b. get_or cells (n * v + b) m.zero) (filter admitted (range_with_len 0 v)))) same
       ∙ ap (join_of m) (map_all (λ b. b < w) (λ b. get_or cells (n * w + b) m.zero) (tally_at m ps)
@@ -322,7 +322,7 @@ module _ {V : Type 0} (m : Means V) (laws : Laws m) where
       (filter admitted (range_with_len 0 w)) (all_kept_by admitted (λ b. b < w) (range_with_len 0 w) (counting_below 0 w w (omega arith))))
       ∙ row_is_tally admitted w bound ps a
 
-pub cheap_parts : (ks : List Kind) (ss : List ℕ) → All Cheap (parts ks ss)
+pub cheap_parts : (ks : List Kind) (ss : List ℕ) → AllByRecursion Cheap (parts ks ss)
 cheap_parts [] ss = tt
 cheap_parts (k ∷ ks) [] = tt
 cheap_parts (k ∷ ks) (s ∷ ss) = (omega (arith, k.cheap), cheap_parts ks ss)

@@ -1,6 +1,6 @@
 -- Membership, filters, and the tests some, every, is_empty over a list.
 use Rattle.std.proofs.Common.{◌≡◌, ℕ, ◌≤◌, min, Bool, true, false, cond, not, ◌&&◌, ◌||◌, List, [], ◌∷◌, ◌++◌, map, length, take, filter, sym, refl, ap, ◌∙◌, subst, ap₂, inl, inr, arith, length-take}
-use Rattle.std.specs.List.{AllByRecursion as All}
+use Rattle.std.specs.List.{AllByRecursion}
 use Rattle.std.proofs.lemmas.Bool.{true≢false, false≢true}
 use Rattle.model.proofs.Lists.{In}
 use Rattle.meaning.specs.Problems.{every, is_empty, some}
@@ -95,11 +95,11 @@ module _ {X : Type 0} where
       go true e = e
       go false e = refl
 
-  pub every_all : (p : X → Bool) (xs : List X) → every p xs ≡ true → All (λ x. p x ≡ true) xs
+  pub every_all : (p : X → Bool) (xs : List X) → every p xs ≡ true → AllByRecursion (λ x. p x ≡ true) xs
   every_all p [] h = tt
   every_all p (y ∷ ys) h = (and_left (p y) (every p ys) h, every_all p ys (and_right (p y) (every p ys) h))
 
-  pub all_every : (p : X → Bool) (xs : List X) → All (λ x. p x ≡ true) xs → every p xs ≡ true
+  pub all_every : (p : X → Bool) (xs : List X) → AllByRecursion (λ x. p x ≡ true) xs → every p xs ≡ true
   all_every p [] h = refl
   all_every p (y ∷ ys) h = and_both (p y) (every p ys) h.0 (all_every p ys h.1)
 

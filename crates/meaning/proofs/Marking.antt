@@ -1,7 +1,7 @@
 -- A yes-no tally says whether there is a choice; and a count is used where a forward and a backward mark meet.
 use Rattle.std.proofs.Common.{◌≡◌, ℕ, zero, suc, ◌+◌, ◌*◌, ◌<◌, ◌≤◌, Bool, true, false, not, eqb, ◌⊎◌, List, [], ◌∷◌, ◌++◌, length, get_or, take, drop, Decides, filter, sym, refl, ap, ◌∙◌, subst, inl, inr, zero-add, add-one, arith}
 use lib.Bits.{bit_and, bit_or}
-use Rattle.std.specs.List.{AllByRecursion as All}
+use Rattle.std.specs.List.{AllByRecursion}
 use Rattle.std.proofs.ByRecursion.{all_kept_by, All-take, All-drop, kept_by_passes}
 use Rattle.std.proofs.lemmas.Bool.{eqb-true, eq-eqb, false≢true}
 use Rattle.meaning.specs.Cells.{Holds, tallies, tallies_back}
@@ -42,7 +42,7 @@ join_yes f e [] = inl (refl, refl)
 join_yes f e (x ∷ xs) =
     inr (ap (λ v. bit_or v (S yes_no f xs)) (e x) ∙ or_one (S yes_no f xs) (elim (join_yes f e xs) [ inl z ↦ omega (arith, z.1) | inr y ↦ omega (arith, y) ]))
 
-first_of : {X : Type 0} (P : X → Type 0) (f : X → ℕ) → ((x : X) → f x ≡ 1) → (xs : List X) → All P xs → S yes_no f xs ≡ 1 → (x : X) × P x
+first_of : {X : Type 0} (P : X → Type 0) (f : X → ℕ) → ((x : X) → f x ≡ 1) → (xs : List X) → AllByRecursion P xs → S yes_no f xs ≡ 1 → (x : X) × P x
 first_of P f e [] a y = absurd (omega arith)
 first_of P f e (x ∷ xs) a y = (x, a.0)
 
@@ -51,40 +51,40 @@ yes_of f e x [] h = absurd h
 yes_of f e x (y ∷ xs) h = elim (join_yes f e (y ∷ xs)) [ inl z ↦ absurd (let n : ◌≡◌ {A = ℕ} 0 1 = cc in omega arith) | inr y ↦ y ]
 
 -- THE MARK: the yes-no tally over the choices that pass t is 1 exactly where some choice of standing counts passes t
-by_S : (t : List ℕ → Bool) (ps : List Part) → All Cheap ps → tally_by yes_no t ps ≡ S yes_no (chain_of yes_no ps) (filter t (choices_of ps))
+by_S : (t : List ℕ → Bool) (ps : List Part) → AllByRecursion Cheap ps → tally_by yes_no t ps ≡ S yes_no (chain_of yes_no ps) (filter t (choices_of ps))
 unfolding tally_by
 by_S t ps a =
     join_of_S yes_no yes_no_laws (λ c. yes_no.has (chain_of yes_no ps c)) (chain_of yes_no ps) (λ c h. h) (filter t (choices_of ps)) (all_kept_by t (λ c. yes_no.has (chain_of yes_no ps c)) (choices_of ps) (has_chains yes_no yes_no_laws ps a))
 
-pub mark_some : (t : List ℕ → Bool) (ps : List Part) → All Cheap ps → tally_by yes_no t ps ≡ 1 → (c : List ℕ) × (Stands ps c × (t c ≡ true))
+pub mark_some : (t : List ℕ → Bool) (ps : List Part) → AllByRecursion Cheap ps → tally_by yes_no t ps ≡ 1 → (c : List ℕ) × (Stands ps c × (t c ≡ true))
 mark_some t ps a y =
     first_of (λ c. Stands ps c × (t c ≡ true)) (chain_of yes_no ps) (chain_yes ps) (filter t (choices_of ps))
     (all_both (Stands ps) (λ c. t c ≡ true) (filter t (choices_of ps)) (all_kept_by t (Stands ps) (choices_of ps) (choices_within (sets_of ps))) (kept_by_passes t (choices_of ps)))
     (sym (by_S t ps a) ∙ y)
 
-pub some_mark : (t : List ℕ → Bool) (ps : List Part) → All Cheap ps → (c : List ℕ) → Stands ps c → t c ≡ true → tally_by yes_no t ps ≡ 1
+pub some_mark : (t : List ℕ → Bool) (ps : List Part) → AllByRecursion Cheap ps → (c : List ℕ) → Stands ps c → t c ≡ true → tally_by yes_no t ps ≡ 1
 some_mark t ps a c h y =
     by_S t ps a ∙ yes_of (chain_of yes_no ps) (chain_yes ps) c (filter t (choices_of ps)) (in_kept t c (choices_of ps) (within_listed (sets_of ps) c h) y)
 
-pub reached : (ps : List Part) → All Cheap ps → (b : ℕ) → tally_at yes_no ps b ≡ 1 → Reaches ps b
+pub reached : (ps : List Part) → AllByRecursion Cheap ps → (b : ℕ) → tally_at yes_no ps b ≡ 1 → Reaches ps b
 reached ps a b y = let r = mark_some (λ c. eqb (total_of ps c) b) ps a y in (r.0, (r.1.0, eqb-true (total_of ps r.0) b r.1.1))
 
-pub reach : (ps : List Part) → All Cheap ps → (b : ℕ) → Reaches ps b → tally_at yes_no ps b ≡ 1
+pub reach : (ps : List Part) → AllByRecursion Cheap ps → (b : ℕ) → Reaches ps b → tally_at yes_no ps b ≡ 1
 reach ps a b r = some_mark (λ c. eqb (total_of ps c) b) ps a r.0 r.1.0 (eq-eqb (total_of ps r.0) b r.1.1)
 
-pub closed : (admitted : ℕ → Bool) (ps : List Part) → All Cheap ps → (b : ℕ) → tally_past yes_no admitted ps b ≡ 1 → Closes admitted ps b
+pub closed : (admitted : ℕ → Bool) (ps : List Part) → AllByRecursion Cheap ps → (b : ℕ) → tally_past yes_no admitted ps b ≡ 1 → Closes admitted ps b
 closed admitted ps a b y = mark_some (λ c. admitted (b + total_of ps c)) ps a y
 
-pub close : (admitted : ℕ → Bool) (ps : List Part) → All Cheap ps → (b : ℕ) → Closes admitted ps b → tally_past yes_no admitted ps b ≡ 1
+pub close : (admitted : ℕ → Bool) (ps : List Part) → AllByRecursion Cheap ps → (b : ℕ) → Closes admitted ps b → tally_past yes_no admitted ps b ≡ 1
 close admitted ps a b r = some_mark (λ c. admitted (b + total_of ps c)) ps a r.0 r.1.0 r.1.1
 
 -- marks are bits
-pub forward_bit : (ps : List Part) → All Cheap ps → (w : ℕ) (cells : List ℕ) → Holds (tallies yes_no ps w) cells → (i b : ℕ) → i < length ps + 1 → b < w → get_or cells (i * w + b) 0 ≤ 1
+pub forward_bit : (ps : List Part) → AllByRecursion Cheap ps → (w : ℕ) (cells : List ℕ) → Holds (tallies yes_no ps w) cells → (i b : ℕ) → i < length ps + 1 → b < w → get_or cells (i * w + b) 0 ≤ 1
 forward_bit ps a w cells held i b h l =
     let P : ℕ → Type 0 = λ v. v ≤ 1 in
     subst P (sym (holds_at 0 (length ps + 1) w (λ i b. tally_at yes_no (take i ps) b) cells held i b h l)) (has_tally yes_no yes_no_laws (λ c. eqb (total_of (take i ps) c) b) (take i ps) (All-take Cheap i ps a))
 
-pub backward_bit : (admitted : ℕ → Bool) (ps : List Part) → All Cheap ps → (w : ℕ) (cells : List ℕ) → Holds (tallies_back yes_no admitted ps w) cells → (i b : ℕ) → i < length ps + 1 → b < w → get_or cells (i * w + b) 0 ≤ 1
+pub backward_bit : (admitted : ℕ → Bool) (ps : List Part) → AllByRecursion Cheap ps → (w : ℕ) (cells : List ℕ) → Holds (tallies_back yes_no admitted ps w) cells → (i b : ℕ) → i < length ps + 1 → b < w → get_or cells (i * w + b) 0 ≤ 1
 backward_bit admitted ps a w cells held i b h l =
     let P : ℕ → Type 0 = λ v. v ≤ 1 in
     subst P (sym (holds_at 0 (length ps + 1) w (λ i b. tally_past yes_no admitted (drop i ps) b) cells held i b h l)) (has_tally yes_no yes_no_laws (λ c. admitted (b + total_of (drop i ps) c)) (drop i ps) (All-drop Cheap i ps a))
@@ -163,7 +163,7 @@ load_uses admitted ps i d u =
     (in_kept (λ c. admitted (total_of ps c)) u.0 (choices_of ps) (within_listed (sets_of ps) u.0 u.1.0) u.1.1) (eq-eqb (get_or u.0 i 0) d u.1.2)
 
 -- the answer of `is_used` where the count stands, from what the two tables hold
-pub used_is : (admitted : ℕ → Bool) (ps : List Part) (w i d : ℕ) (p : Part) (ahead back : List ℕ) (r : Bool) → ((t : ℕ) → admitted t ≡ true → t < w) → All Cheap ps → i < length ps → p ≡ get_or ps i p → d < 64 → has p.standing d ≡ true → Holds (tallies yes_no ps w) ahead → Holds (tallies_back yes_no admitted ps w) back → Decides r ((b : ℕ) × ((b < w) × Meets ahead back (i * w) ((i + 1) * w) w (p.size * d) b)) → r ≡ uses (fits admitted ps) i d
+pub used_is : (admitted : ℕ → Bool) (ps : List Part) (w i d : ℕ) (p : Part) (ahead back : List ℕ) (r : Bool) → ((t : ℕ) → admitted t ≡ true → t < w) → AllByRecursion Cheap ps → i < length ps → p ≡ get_or ps i p → d < 64 → has p.standing d ≡ true → Holds (tallies yes_no ps w) ahead → Holds (tallies_back yes_no admitted ps w) back → Decides r ((b : ℕ) × ((b < w) × Meets ahead back (i * w) ((i + 1) * w) w (p.size * d) b)) → r ≡ uses (fits admitted ps) i d
 used_is admitted ps w i d p ahead back r bound a l e low y held held_back dec =
     let at_ahead : (j b : ℕ) → j < length ps + 1 → b < w → get_or ahead (j * w + b) 0 ≡ tally_at yes_no (take j ps) b = holds_at 0 (length ps + 1) w (λ i b. tally_at yes_no (take i ps) b) ahead held in
     let at_back : (j b : ℕ) → j < length ps + 1 → b < w → get_or back (j * w + b) 0 ≡ tally_past yes_no admitted (drop j ps) b = holds_at 0 (length ps + 1) w (λ i b. tally_past yes_no admitted (drop i ps) b) back held_back in
@@ -210,7 +210,7 @@ first_one : {X : Type 0} (xs : List X) → not (is_empty xs) ≡ true → (x : X
 first_one [] h = absurd (false≢true h)
 first_one (x ∷ xs) h = (x, inl refl)
 
-pub some_load : (admitted : ℕ → Bool) (ps : List Part) → All Cheap ps → (v : ℕ) → v ≡ tally_past yes_no admitted ps 0 → eqb v 1 ≡ not (is_empty (fits admitted ps))
+pub some_load : (admitted : ℕ → Bool) (ps : List Part) → AllByRecursion Cheap ps → (v : ℕ) → v ≡ tally_past yes_no admitted ps 0 → eqb v 1 ≡ not (is_empty (fits admitted ps))
 some_load admitted ps a v e =
     same_test (eqb v 1) (not (is_empty (fits admitted ps)))
     (λ y.

@@ -1,6 +1,6 @@
 -- Marks and loads correspond.
 use Rattle.std.proofs.Common.{◌≡◌, ℕ, zero, suc, ◌+◌, ◌*◌, ◌<◌, ◌≤◌, Bool, true, ◌↔◌, List, [], ◌∷◌, length, get_or, take, drop, sym, refl, ap, ◌∙◌, add-zero, arith}
-use Rattle.std.specs.List.{AllByRecursion as All}
+use Rattle.std.specs.List.{AllByRecursion}
 use Rattle.std.proofs.ByRecursion.{All-take, All-drop}
 use Rattle.std.proofs.lemmas.List.{length-map, take_all, drop_all, get_or_default}
 use Rattle.model.specs.Loads.{fits, total_of, Within}
@@ -32,7 +32,7 @@ within_long [] (d ∷ load) h = absurd h
 within_long (s ∷ sets) [] h = absurd h
 within_long (s ∷ sets) (d ∷ load) h = ap suc (within_long sets load h.2)
 
-module _ (admits : ℕ → Bool) (ps : List Part) (w : ℕ) (cheap : All Cheap ps) (bound : (t : ℕ) → admits t ≡ true → t < w) where
+module _ (admits : ℕ → Bool) (ps : List Part) (w : ℕ) (cheap : AllByRecursion Cheap ps) (bound : (t : ℕ) → admits t ≡ true → t < w) where
   ahead_at : (i b : ℕ) → i ≤ length ps → b < w → cell (tallies yes_no ps w) w i b ≡ tally_at yes_no (take i ps) b
   ahead_at i b h l = grid_at 0 (length ps + 1) w (λ i b. tally_at yes_no (take i ps) b) i b (omega arith) l
 

@@ -1,6 +1,6 @@
 -- The choices rise, so the first of those that pass a test is the one that no other comes before; and the runs.
 use Rattle.std.proofs.Common.{◌≡◌, ℕ, zero, suc, ◌<◌, Bool, true, false, List, [], ◌∷◌, Some, None, filter, Option, sym, refl, ap, ◌∙◌, subst, inl, inr, arith}
-use Rattle.std.specs.List.{AllByRecursion as All, slice_get}
+use Rattle.std.specs.List.{AllByRecursion, slice_get}
 use Rattle.std.proofs.lemmas.Bool.{both_ways, cond-true, cond-false}
 use Rattle.std.proofs.ByRecursion.{all_kept_by, All-weaker, kept_by_passes}
 use Rattle.std.proofs.lemmas.Option.{slice_get_past}
@@ -17,7 +17,7 @@ use Rattle.model.specs.Parts.{Part, sets_of}
 pub loads_rise : (adm : ℕ → Bool) (ps : List Part) → Rising (fits adm ps)
 loads_rise adm ps = kept_rises (λ c. adm (total_of ps c)) (choices_of ps) (choices_rise (sets_of ps))
 
-pub loads_fit : (adm : ℕ → Bool) (ps : List Part) → All (Fits adm ps) (fits adm ps)
+pub loads_fit : (adm : ℕ → Bool) (ps : List Part) → AllByRecursion (Fits adm ps) (fits adm ps)
 loads_fit adm ps =
     all_both (Stands ps) (λ c. adm (total_of ps c) ≡ true) (filter (λ c. adm (total_of ps c)) (choices_of ps))
     (all_kept_by (λ c. adm (total_of ps c)) (Stands ps) (choices_of ps) (choices_within (sets_of ps))) (kept_by_passes (λ c. adm (total_of ps c)) (choices_of ps))
@@ -26,12 +26,12 @@ pub fits_listed : (adm : ℕ → Bool) (ps : List Part) (c : List ℕ) → Fits 
 fits_listed adm ps c h = in_kept (λ c. adm (total_of ps c)) c (choices_of ps) (within_listed (sets_of ps) c h.0) h.1
 
 -- the element that no other comes before is the first
-pub head_is : (ls : List (List ℕ)) → Rising ls → (x : List ℕ) → In x ls → All (λ y. before y x ≡ false) ls → head_of ls ≡ Some x
+pub head_is : (ls : List (List ℕ)) → Rising ls → (x : List ℕ) → In x ls → AllByRecursion (λ y. before y x ≡ false) ls → head_of ls ≡ Some x
 head_is [] r x i a = absurd i
 head_is (l ∷ ls) r x (inl e) a = ap Some (sym e)
 head_is (l ∷ ls) r x (inr i) a = absurd (both_ways (before l x) a.0 (all_in (λ m. before l m ≡ true) ls r.0 x i))
 
-pub head_none : {X : Type 0} (ls : List X) → All (λ y. ⊥) ls → head_of ls ≡ None
+pub head_none : {X : Type 0} (ls : List X) → AllByRecursion (λ y. ⊥) ls → head_of ls ≡ None
 head_none [] a = refl
 head_none (l ∷ ls) a = absurd a.0
 
@@ -64,11 +64,11 @@ pub head_nth : {X : Type 0} (ls : List X) → head_of ls ≡ slice_get ls 0
 head_nth [] = refl
 head_nth (l ∷ ls) = refl
 
-kept_all : {X : Type 0} (t : X → Bool) (ls : List X) → All (λ x. t x ≡ true) ls → filter t ls ≡ ls
+kept_all : {X : Type 0} (t : X → Bool) (ls : List X) → AllByRecursion (λ x. t x ≡ true) ls → filter t ls ≡ ls
 kept_all t [] a = refl
 kept_all t (l ∷ ls) a = cond-true (t l) (l ∷ filter t ls) (filter t ls) a.0 ∙ ap (λ xs. l ∷ xs) (kept_all t ls a.1)
 
-all_nth : {X : Type 0} (P : X → Type 0) (ls : List X) → All P ls → (k : ℕ) (x : X) → slice_get ls k ≡ Some x → P x
+all_nth : {X : Type 0} (P : X → Type 0) (ls : List X) → AllByRecursion P ls → (k : ℕ) (x : X) → slice_get ls k ≡ Some x → P x
 all_nth P [] a k x e = absurd (let z : ◌≡◌ {A = ℕ} 0 1 = cc in omega arith)
 all_nth {X} P (l ∷ ls) a zero x e = let s : l ≡ x = cc in let Q : X → Type 0 = P in subst Q s a.0
 all_nth P (l ∷ ls) a (suc k) x e = all_nth P ls a.1 k x e

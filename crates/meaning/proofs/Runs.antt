@@ -1,6 +1,6 @@
 -- Any calls after a settle.
 use Rattle.std.proofs.Common.{◌≡◌, ℕ, ◌-◌, ◌<◌, ◌≤◌, Bool, true, false, not, ◌&&◌, leb, ◌↔◌, List, [], ◌∷◌, get_or, filter, sym, refl, ap, ◌∙◌, subst, ap₂, zero-le, arith}
-use Rattle.std.specs.List.{AllByRecursion as All}
+use Rattle.std.specs.List.{AllByRecursion}
 use Rattle.std.proofs.ByRecursion.{All-weaker}
 use Rattle.std.proofs.lemmas.Bool.{true≢false, false≢true, le-leb, eqb-true, eq-eqb}
 use Rattle.meaning.specs.Claims.{GoesOn, History}
@@ -58,7 +58,7 @@ eight_for a f g o = record { exactly = (λ e. f (o.exactly.0 e), λ q. o.exactly
 
 pub next_rule : (c : Problem) (s : State) (r : Register) → Shows c s r → (i d f b : ℕ) → 1 ≤ i → i ≤ kinds_of c → d < 64 → short c f b ≡ false
     → has (get_or s.standing (i - 1) 0) d ≡ true
-    → OnlyEight (All (λ load. get_or load (i - 1) 0 ≡ d) (loads_of c r.ruled)) (does c s (rule_out i d f b)).1
+    → OnlyEight (AllByRecursion (λ load. get_or load (i - 1) 0 ≡ d) (loads_of c r.ruled)) (does c s (rule_out i d f b)).1
 next_rule c s r sh i d f b h k l long st =
     let q : in_range c i d ≡ true =
     and_both (leb 1 i) (leb i (kinds_of c) && leb d 63) (le-leb 1 i h) (and_both (leb i (kinds_of c)) (leb d 63) (le-leb i (kinds_of c) k) (le-leb d 63 (omega arith))) in
@@ -77,7 +77,7 @@ alone_eight a o = (λ e. o.exactly.0 (ap is_refused e), λ p. o.eight (o.exactly
 
 pub last_way : (c : Problem) (s : State) (r : Register) → Shows c s r → (i d f b : ℕ) → 1 ≤ i → i ≤ kinds_of c → d < 64 → short c f b ≡ false
     → has (get_or s.standing (i - 1) 0) d ≡ true
-    → ((does c s (rule_out i d f b)).1 ≡ refused 8) ↔ All (λ load. get_or load (i - 1) 0 ≡ d) (loads_of c r.ruled)
+    → ((does c s (rule_out i d f b)).1 ≡ refused 8) ↔ AllByRecursion (λ load. get_or load (i - 1) 0 ≡ d) (loads_of c r.ruled)
 last_way c s r sh i d f b h k l long st = alone_eight (does c s (rule_out i d f b)).1 (next_rule c s r sh i d f b h k l long st)
 
 -- a state that shows a register agrees with it

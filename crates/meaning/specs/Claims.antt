@@ -1,6 +1,6 @@
 -- The theorems, in the subject's own words. Each is the `ensures` of a function, so that the check asks for its proof.
 use Rattle.std.specs.Prelude.{◌≡◌, ℕ, ◌-◌, ◌<◌, ◌≤◌, true, false, ◌↔◌, List, length, slice_index}
-use Rattle.std.specs.List.{AllByRecursion as All}
+use Rattle.std.specs.List.{AllByRecursion}
 use Rattle.meaning.specs.Measures.{Means}
 use Rattle.meaning.specs.Life.{Agrees, Life, Ran, life_after, lives, replies}
 use Rattle.meaning.specs.Plan.{Nested, Shows, State, does, says, settled, state_after}
@@ -30,7 +30,7 @@ pub record History (c : Problem) (calls : List Call) : Type 0 where
   pub last_way : (i d forward backward : ℕ) → 1 ≤ i → i ≤ kinds_of c → d < 64 → short c forward backward ≡ false
       → has (slice_index (state_after c (settled c) calls).standing (i - 1)) d ≡ true
       → ((does c (state_after c (settled c) calls) (rule_out i d forward backward)).1 ≡ refused 8)
-      ↔ All (λ load. slice_index load (i - 1) ≡ d) (loads_of c (after c start calls).ruled)
+      ↔ AllByRecursion (λ load. slice_index load (i - 1) ≡ d) (loads_of c (after c start calls).ruled)
 
 abbrev pub HistoryStands : Type 0
 HistoryStands = (c : Problem) (calls : List Call) → is_empty (fitting c (allowed_sets c)) ≡ false → History c calls

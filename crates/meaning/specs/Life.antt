@@ -1,6 +1,6 @@
 -- The life of a plan: blank over a goal, then settled with a case; and what each call does to it.
 use Rattle.std.specs.Prelude.{◌≡◌, ℕ, ◌+◌, ◌-◌, ◌<◌, ◌≤◌, Bool, true, false, cond, ◌&&◌, ◌↔◌, List, [], ◌∷◌, length, replicate, ◌==◌, nat_le, nat_lt, slice_index}
-use Rattle.std.specs.List.{AllByRecursion as All}
+use Rattle.std.specs.List.{AllByRecursion}
 use Rattle.meaning.specs.Cells.{over, tallies, tallies_back}
 use Rattle.meaning.specs.Measures.{Means}
 use Rattle.meaning.specs.Models.{yes_no}
@@ -146,7 +146,7 @@ pub record Told (c : Problem) (r : Register) (xs : List Call) (last : Life) (sai
       → has (slice_index (standing_of last) (i - 1)) d ≡ uses (loads_of c (after c r xs).ruled) (i - 1) d
   pub last_way : (i d forward backward : ℕ) → 1 ≤ i → i ≤ kinds_of c → d < 64 → short c forward backward ≡ false
       → has (slice_index (standing_of last) (i - 1)) d ≡ true
-      → ((act last (rule_out i d forward backward)).1 ≡ refused 8) ↔ All (λ load. slice_index load (i - 1) ≡ d) (loads_of c (after c r xs).ruled)
+      → ((act last (rule_out i d forward backward)).1 ≡ refused 8) ↔ AllByRecursion (λ load. slice_index load (i - 1) ≡ d) (loads_of c (after c r xs).ruled)
 
 abbrev pub ToldAll : Life → List Call → Life → List Answer → Type 0
 ToldAll (blank g) xs last said = Unit {0}
@@ -175,7 +175,7 @@ pub record Agrees (c : Problem) (l : Life) (r : Register) : Type 0 where
   pub stands : (i d : ℕ) → 1 ≤ i → i ≤ kinds_of c → d < 64 → has (slice_index (standing_of l) (i - 1)) d ≡ uses (loads_of c r.ruled) (i - 1) d
   pub next : (i d forward backward : ℕ) → 1 ≤ i → i ≤ kinds_of c → d < 64 → short c forward backward ≡ false
       → has (slice_index (standing_of l) (i - 1)) d ≡ true
-      → OnlyEight (All (λ load. slice_index load (i - 1) ≡ d) (loads_of c r.ruled)) (act l (rule_out i d forward backward)).1
+      → OnlyEight (AllByRecursion (λ load. slice_index load (i - 1) ≡ d) (loads_of c r.ruled)) (act l (rule_out i d forward backward)).1
 
 -- the goal that the plan was made over
 abbrev pub goal_of : Life → Target

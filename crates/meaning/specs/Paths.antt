@@ -1,6 +1,6 @@
 -- Marks and loads, in the subject's own words.
 use Rattle.std.specs.Prelude.{◌≡◌, ℕ, ◌+◌, ◌*◌, ◌<◌, ◌≤◌, Bool, true, ◌↔◌, List, length, take, drop, slice_index, slice_index_or}
-use Rattle.std.specs.List.{AllByRecursion as All}
+use Rattle.std.specs.List.{AllByRecursion}
 use Rattle.model.specs.Loads.{fits, total_of, Within}
 use Rattle.model.specs.Parts.{Part, sets_of}
 use Rattle.model.specs.Sets.{has}
@@ -45,4 +45,4 @@ pub record Marked (admits : ℕ → Bool) (ps : List Part) (w : ℕ) : Type 0 wh
       × (cell (tallies_back yes_no admits ps w) w (i + 1) (b + (part_at ps i).size * d) ≡ 1))))
 
 abbrev pub MarksAndLoads : Type 0
-MarksAndLoads = (admits : ℕ → Bool) (ps : List Part) (w : ℕ) → All Cheap ps → ((t : ℕ) → admits t ≡ true → t < w) → Marked admits ps w
+MarksAndLoads = (admits : ℕ → Bool) (ps : List Part) (w : ℕ) → AllByRecursion Cheap ps → ((t : ℕ) → admits t ≡ true → t < w) → Marked admits ps w

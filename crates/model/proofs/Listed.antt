@@ -1,6 +1,6 @@
 -- The choices from sets: those that pass a test are listed each once and in order.
 use Rattle.std.proofs.Common.{◌≡◌, ℕ, zero, suc, ◌+◌, ◌<◌, ◌≤◌, Bool, true, false, cond, List, [], ◌∷◌, ◌++◌, map, length, get_or, filter, sym, refl, inl, inr, arith}
-use Rattle.std.specs.List.{range_with_len, flat_map, AllByRecursion as All}
+use Rattle.std.specs.List.{range_with_len, flat_map, AllByRecursion}
 use Rattle.std.proofs.ByRecursion.{all_kept_by, All-map, All-append, All-weaker, kept_by_passes}
 use Rattle.std.proofs.lemmas.Bool.{cases_order}
 use Rattle.model.specs.Sets.{has, counts, members}
@@ -13,21 +13,21 @@ use Rattle.model.proofs.Order.{same_first, less_first, order_told, never_itself}
 -- each load of the list comes before all the later ones
 abbrev pub Rising : List (List ℕ) → Type 0
 Rising [] = Unit {0}
-Rising (l ∷ ls) = All (λ m. before l m ≡ true) ls × Rising ls
+Rising (l ∷ ls) = AllByRecursion (λ m. before l m ≡ true) ls × Rising ls
 
-pub all_joined : {X Y : Type 0} (P : X → Type 0) (Q : Y → Type 0) (g : X → List Y) → ((x : X) → P x → All Q (g x)) → (xs : List X) → All P xs → All Q (flat_map g xs)
+pub all_joined : {X Y : Type 0} (P : X → Type 0) (Q : Y → Type 0) (g : X → List Y) → ((x : X) → P x → AllByRecursion Q (g x)) → (xs : List X) → AllByRecursion P xs → AllByRecursion Q (flat_map g xs)
 all_joined P Q g q [] a = tt
 all_joined P Q g q (x ∷ xs) a = All-append Q (g x) (flat_map g xs) (q x a.0) (all_joined P Q g q xs a.1)
 
-all_always : {X : Type 0} (P : X → Type 0) → ((x : X) → P x) → (xs : List X) → All P xs
+all_always : {X : Type 0} (P : X → Type 0) → ((x : X) → P x) → (xs : List X) → AllByRecursion P xs
 all_always P h [] = tt
 all_always P h (x ∷ xs) = (h x, all_always P h xs)
 
 abbrev Up : List ℕ → Type 0
 Up [] = Unit {0}
-Up (d ∷ ds) = All (λ e. d < e) ds × Up ds
+Up (d ∷ ds) = AllByRecursion (λ e. d < e) ds × Up ds
 
-counting_above : (a x n : ℕ) → a < x → All (λ e. a < e) (range_with_len x n)
+counting_above : (a x n : ℕ) → a < x → AllByRecursion (λ e. a < e) (range_with_len x n)
 counting_above a x zero h = tt
 counting_above a x (suc n) h = (h, counting_above a (x + 1) n (omega arith))
 
@@ -47,7 +47,7 @@ members_up : (s : ℕ) → Up (members s)
 unfolding counts
 members_up s = kept_up (has s) (range_with_len 0 64) (counting_up 0 64)
 
-rising_append : (ls ms : List (List ℕ)) → Rising ls → Rising ms → All (λ l. All (λ m. before l m ≡ true) ms) ls → Rising (ls ++ ms)
+rising_append : (ls ms : List (List ℕ)) → Rising ls → Rising ms → AllByRecursion (λ l. AllByRecursion (λ m. before l m ≡ true) ms) ls → Rising (ls ++ ms)
 rising_append [] ms r s h = s
 rising_append (l ∷ ls) ms r s h = (All-append (λ m. before l m ≡ true) ls ms r.0 h.0, rising_append ls ms r.1 s h.1)
 
@@ -63,8 +63,8 @@ rising_joined [] cs u r = tt
 rising_joined (d ∷ ds) cs u r =
     let rest = flat_map (λ d. map (λ c. d ∷ c) cs) ds in
     rising_append (map (λ c. d ∷ c) cs) rest (rising_map d cs r) (rising_joined ds cs u.1 r)
-    (All-map (λ l. All (λ m. before l m ≡ true) rest) (λ c. d ∷ c) cs
-    (all_always (λ c. All (λ m. before (d ∷ c) m ≡ true) rest)
+    (All-map (λ l. AllByRecursion (λ m. before l m ≡ true) rest) (λ c. d ∷ c) cs
+    (all_always (λ c. AllByRecursion (λ m. before (d ∷ c) m ≡ true) rest)
     (λ c. all_joined (λ e. d < e) (λ m. before (d ∷ c) m ≡ true) (λ d. map (λ c. d ∷ c) cs)
     (λ e h. All-map (λ m. before (d ∷ c) m ≡ true) (λ m. e ∷ m) cs (all_always (λ m. before (d ∷ c) (e ∷ m) ≡ true) (λ m. less_first d e c m h) cs))
     ds u.0) cs))
@@ -83,11 +83,11 @@ kept_rises t (l ∷ ls) r =
     ]
 
 -- what a choice is
-pub counting_below : (a n m : ℕ) → a + n ≤ m → All (λ d. d < m) (range_with_len a n)
+pub counting_below : (a n m : ℕ) → a + n ≤ m → AllByRecursion (λ d. d < m) (range_with_len a n)
 counting_below a zero m h = tt
 counting_below a (suc n) m h = (omega arith, counting_below (a + 1) n m (omega arith))
 
-pub members_below : (s : ℕ) → All (λ d. d < 64) (members s)
+pub members_below : (s : ℕ) → AllByRecursion (λ d. d < 64) (members s)
 unfolding counts
 members_below s = all_kept_by (has s) (λ d. d < 64) (range_with_len 0 64) (counting_below 0 64 64 (omega arith))
 
@@ -95,7 +95,7 @@ in_members : (s d : ℕ) → d < 64 → has s d ≡ true → In d (members s)
 unfolding counts
 in_members s d l h = in_kept (has s) d (range_with_len 0 64) (in_counting 0 64 d (omega arith) (omega arith)) h
 
-pub choices_within : (sets : List ℕ) → All (Within sets) (choices sets)
+pub choices_within : (sets : List ℕ) → AllByRecursion (Within sets) (choices sets)
 unfolding choices
 choices_within [] = (tt, tt)
 choices_within (s ∷ sets) =
@@ -122,7 +122,7 @@ pub lists : (t : List ℕ → Bool) (sets : List ℕ) → Lists (λ load. Within
 lists t sets =
     let loads = passing t sets in
     let up : Rising loads = kept_rises t (choices sets) (choices_rise sets) in
-    let fit : All (λ load. Within sets load × (t load ≡ true)) loads =
+    let fit : AllByRecursion (λ load. Within sets load × (t load ≡ true)) loads =
     all_both (Within sets) (λ load. t load ≡ true) loads (all_kept_by t (Within sets) (choices sets) (choices_within sets)) (kept_by_passes t (choices sets)) in
     let order : (j k : ℕ) → j < k → k < length loads → Precedes (get_or loads j []) (get_or loads k []) =
     λ j k h l. (order_told (get_or loads j []) (get_or loads k [])).0 (rises_at_lem loads up j k h l) in

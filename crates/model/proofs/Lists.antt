@@ -1,6 +1,6 @@
 -- Membership and filters.
 use Rattle.std.proofs.Common.{◌≡◌, ℕ, zero, suc, ◌+◌, ◌<◌, ◌≤◌, Bool, true, false, cond, ◌⊎◌, List, [], ◌∷◌, ◌++◌, map, length, get_or, filter, sym, ap, subst, inl, inr, arith}
-use Rattle.std.specs.List.{range_with_len, flat_map, AllByRecursion as All}
+use Rattle.std.specs.List.{range_with_len, flat_map, AllByRecursion}
 use Rattle.std.proofs.lemmas.Bool.{cases_eq}
 
 -- x is an element
@@ -39,16 +39,16 @@ in_joined g x y [] h i = absurd h
 in_joined {X} {Y} g x y (z ∷ xs) (inl e) i = let P : X → Type 0 = λ w. In y (g w) in in_left y (g z) (flat_map g xs) (subst P e i)
 in_joined g x y (z ∷ xs) (inr h) i = in_right y (g z) (flat_map g xs) (in_joined g x y xs h i)
 
-pub all_in : {X : Type 0} (P : X → Type 0) (xs : List X) → All P xs → (x : X) → In x xs → P x
+pub all_in : {X : Type 0} (P : X → Type 0) (xs : List X) → AllByRecursion P xs → (x : X) → In x xs → P x
 all_in P [] a x i = absurd i
 all_in {X} P (y ∷ ys) a x (inl e) = let Q : X → Type 0 = P in subst Q (sym e) a.0
 all_in P (y ∷ ys) a x (inr i) = all_in P ys a.1 x i
 
-pub all_both : {X : Type 0} (P Q : X → Type 0) (xs : List X) → All P xs → All Q xs → All (λ x. P x × Q x) xs
+pub all_both : {X : Type 0} (P Q : X → Type 0) (xs : List X) → AllByRecursion P xs → AllByRecursion Q xs → AllByRecursion (λ x. P x × Q x) xs
 all_both P Q [] a b = tt
 all_both P Q (x ∷ xs) a b = ((a.0, b.0), all_both P Q xs a.1 b.1)
 
-pub all_at : {X : Type 0} (P : X → Type 0) (xs : List X) → All P xs → (k : ℕ) (d : X) → k < length xs → P (get_or xs k d)
+pub all_at : {X : Type 0} (P : X → Type 0) (xs : List X) → AllByRecursion P xs → (k : ℕ) (d : X) → k < length xs → P (get_or xs k d)
 all_at P [] a k d h = absurd (omega arith)
 all_at P (x ∷ xs) a zero d h = a.0
 all_at P (x ∷ xs) a (suc k) d h = all_at P xs a.1 k d (omega arith)

@@ -1,7 +1,7 @@
 -- From the run of a file to its outcome.
 use Rattle.std.proofs.Common.{◌≡◌, ℕ, true, List, [], length, Some, None, Option, sym, refl, ap, ◌∙◌, subst, inl, inr, arith}
 use Rattle.model.specs.Answers.{accepted, refused}
-use Rattle.std.specs.List.{AllByRecursion as All}
+use Rattle.std.specs.List.{AllByRecursion}
 use Rattle.fields.specs.Values.{Value, kind, band, list, stride, rule_out_field, end, write, Fine}
 use Rattle.fields.specs.Reading.{Fields, fields, first, got}
 use Rattle.faults.specs.Faults.{Fault, fault_in_plan}
@@ -125,7 +125,7 @@ module _ (file f b : List ℕ) (h : Holding) (log : List Ruled) where
   start = fresh f b
 
   -- the fields of a file in order are those that are read from it
-  read_so : (values : List Value) → InOrder values → All Fine values → file ≡ write values → (fields file).values ≡ values
+  read_so : (values : List Value) → InOrder values → AllByRecursion Fine values → file ≡ write values → (fields file).values ≡ values
   read_so values order fine is = ap (λ (x : Fields). x.values) (ap fields is ∙ fields_whole values (lasts values Kinds 0 refl (all values order)) fine)
 
   accepted_so : Completed desk file start h log → Accepted file f b h log

@@ -10,7 +10,7 @@ use Rattle.meaning.specs.Problems.{Problem, needed, short}
 use Rattle.meaning.specs.Register.{after, answers, rule_out, start, step}
 use Rattle.fields.specs.declared.field.Cause.{Cause}
 use Rattle.fields.specs.Causes.{cause_number}
-use Rattle.std.specs.List.{AllByRecursion as All}
+use Rattle.std.specs.List.{AllByRecursion}
 use Rattle.fields.specs.Values.{Value, rule_out_field, write, Fine}
 use Rattle.fields.specs.Reading.{bad, first, got}
 use Rattle.faults.specs.Faults.{Fault, fault_in_field, out_of_sequence, fault_in_plan, too_long}
@@ -101,7 +101,7 @@ pub record Faulted (file f b : List ℕ) (x : Fault) (h : Holding) (log : List R
   pub rest : List ℕ
   pub phase : Phase
   pub file_is : file ≡ write values ++ rest
-  pub fine : All Fine values
+  pub fine : AllByRecursion Fine values
   pub sequence : reach Kinds 0 values ≡ Some phase
   pub stops : Stops f b phase values (length (write values)) rest x h log
 
@@ -116,9 +116,9 @@ pub record TooMany (file f b : List ℕ) (x : Fault) (h : Holding) (log : List R
 pub record Accepted (file f b : List ℕ) (h : Holding) (log : List Ruled) : Type 0 where
   pub values : List Value
   pub file_is : file ≡ write values
-  pub fine : All Fine values
+  pub fine : AllByRecursion Fine values
   pub order : InOrder values
-  pub only : (others : List Value) → InOrder others → All Fine others → file ≡ write others → others ≡ values
+  pub only : (others : List Value) → InOrder others → AllByRecursion Fine others → file ≡ write others → others ≡ values
   pub showing : Showing f b values log h
 
 -- A reading: its defined outcome, and what that means.

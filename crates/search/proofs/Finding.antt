@@ -1,6 +1,6 @@
 -- The search: going down the marks with the least counts, and the kind to raise.
 use Rattle.std.proofs.Common.{◌≡◌, ℕ, zero, suc, ◌+◌, ◌-◌, ◌*◌, ◌<◌, ◌≤◌, Bool, true, false, ◌&&◌, eqb, ltb, List, [], ◌∷◌, ◌++◌, length, get_or, take, drop, set, is_some, Some, Option, sym, refl, ap, ◌∙◌, subst, inl, inr, append_assoc, add_assoc, zero-add, add-one, arith, take-append-drop, length-take}
-use Rattle.std.specs.List.{AllByRecursion as All, slice_get}
+use Rattle.std.specs.List.{AllByRecursion, slice_get}
 use Rattle.std.proofs.lemmas.List.{take_all, take_more_set, take-set-le, drop_more, drop_all, drop_at, append-nil}
 use Rattle.std.proofs.lemmas.Bool.{cases_lt, cases_eq, cases_order, false≢true, both_ways, and_parts, and_from, lt-ltb, ltb-true, eq-eqb, eqb-true}
 use Rattle.std.proofs.ByRecursion.{All-drop}
@@ -31,7 +31,7 @@ module _ (adm : ℕ → Bool) (ks : List Kind) (ss : List ℕ) (w : ℕ) (cells 
   inside : i + 1 ≤ length (parts ks ss)
   inside = omega (arith, length_parts ks ss held.long)
 
-  cheap : All Cheap (drop (i + 1) (parts ks ss))
+  cheap : AllByRecursion Cheap (drop (i + 1) (parts ks ss))
   cheap = All-drop Cheap (i + 1) (parts ks ss) (cheap_parts ks ss)
 
   pub closes_means : closes cells ((i + 1) * w) w p b d ≡ true → (has p.standing d ≡ true) × Closes adm (drop (i + 1) (parts ks ss)) (b + p.size * d)

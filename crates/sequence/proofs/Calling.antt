@@ -1,6 +1,6 @@
 -- The calls of fields in order, and of a run without fault.
 use Rattle.std.proofs.Common.{◌≡◌, ℕ, ◌+◌, ◌≤◌, Bool, true, false, List, [], ◌∷◌, ◌++◌, map, length, Some, None, Option, refl, ap, ◌∙◌, subst, arith}
-use Rattle.std.specs.List.{AllByRecursion as All}
+use Rattle.std.specs.List.{AllByRecursion}
 use Rattle.fields.specs.Values.{Value, kind, band, list, stride, rule_out_field, end, field}
 use Rattle.fields.specs.Reading.{Open}
 use Rattle.sequence.specs.declared.phase.Phase.{Phase}
@@ -16,7 +16,7 @@ none_not n e = let z : ◌≡◌ {A = ℕ} 0 1 = cc in absurd (omega (arith, z))
 true_not : {A : Type 0} → ◌≡◌ {A = Bool} false true → A
 true_not e = let z : ◌≡◌ {A = ℕ} 0 1 = cc in absurd (omega (arith, z))
 
-of_rules : (rules : List Value) (p : ℕ) → All (λ v. is_rule v ≡ true) rules → calls Rules p (rules ++ (end ∷ [])) ≡ map of rules
+of_rules : (rules : List Value) (p : ℕ) → AllByRecursion (λ v. is_rule v ≡ true) rules → calls Rules p (rules ++ (end ∷ [])) ≡ map of rules
 of_rules [] p h = refl
 of_rules (kind size price counts ∷ vs) p h = true_not h.0
 of_rules (band low high ∷ vs) p h = true_not h.0
@@ -25,7 +25,7 @@ of_rules (stride modulus rest ∷ vs) p h = true_not h.0
 of_rules (rule_out_field k count ∷ vs) p h = ap (λ (t : List Operation). of (rule_out_field k count) ∷ t) (of_rules vs (p + 5) h.1)
 of_rules (end ∷ vs) p h = true_not h.0
 
-of_strided : (g : ℕ) (rules : List Value) (p : ℕ) → All (λ v. is_rule v ≡ true) rules → calls (Strided g) p (rules ++ (end ∷ [])) ≡ settled ∷ map of rules
+of_strided : (g : ℕ) (rules : List Value) (p : ℕ) → AllByRecursion (λ v. is_rule v ≡ true) rules → calls (Strided g) p (rules ++ (end ∷ [])) ≡ settled ∷ map of rules
 of_strided g [] p h = refl
 of_strided g (kind size price counts ∷ vs) p h = true_not h.0
 of_strided g (band low high ∷ vs) p h = true_not h.0
@@ -34,7 +34,7 @@ of_strided g (stride modulus rest ∷ vs) p h = true_not h.0
 of_strided g (rule_out_field k count ∷ vs) p h = ap (λ (t : List Operation). settled ∷ of (rule_out_field k count) ∷ t) (of_rules vs (p + 5) h.1)
 of_strided g (end ∷ vs) p h = true_not h.0
 
-of_unstrided : (g : ℕ) (rules : List Value) (p : ℕ) → All (λ v. is_rule v ≡ true) rules → calls (Goal g) p (rules ++ (end ∷ [])) ≡ settled ∷ map of rules
+of_unstrided : (g : ℕ) (rules : List Value) (p : ℕ) → AllByRecursion (λ v. is_rule v ≡ true) rules → calls (Goal g) p (rules ++ (end ∷ [])) ≡ settled ∷ map of rules
 of_unstrided g [] p h = refl
 of_unstrided g (kind size price counts ∷ vs) p h = true_not h.0
 of_unstrided g (band low high ∷ vs) p h = true_not h.0
@@ -43,7 +43,7 @@ of_unstrided g (stride modulus rest ∷ vs) p h = true_not h.0
 of_unstrided g (rule_out_field k count ∷ vs) p h = ap (λ (t : List Operation). settled ∷ of (rule_out_field k count) ∷ t) (of_rules vs (p + 5) h.1)
 of_unstrided g (end ∷ vs) p h = true_not h.0
 
-of_goal : (g : ℕ) (strides rules : List Value) (p : ℕ) → All (λ v. is_stride v ≡ true) strides → length strides ≤ 1 → All (λ v. is_rule v ≡ true) rules
+of_goal : (g : ℕ) (strides rules : List Value) (p : ℕ) → AllByRecursion (λ v. is_stride v ≡ true) strides → length strides ≤ 1 → AllByRecursion (λ v. is_rule v ≡ true) rules
     → calls (Goal g) p (strides ++ (rules ++ (end ∷ []))) ≡ map of strides ++ (settled ∷ map of rules)
 of_goal g [] rules p s o h = of_unstrided g rules p h
 of_goal g (kind size price counts ∷ vs) rules p s o h = true_not s.0
@@ -55,7 +55,7 @@ of_goal g (rule_out_field k count ∷ vs) rules p s o h = true_not s.0
 of_goal g (end ∷ vs) rules p s o h = true_not s.0
 
 of_kinds : (kinds : List Value) (goal : Value) (strides rules : List Value) (p : ℕ)
-    → All (λ v. is_kind v ≡ true) kinds → is_goal goal ≡ true → All (λ v. is_stride v ≡ true) strides → length strides ≤ 1 → All (λ v. is_rule v ≡ true) rules
+    → AllByRecursion (λ v. is_kind v ≡ true) kinds → is_goal goal ≡ true → AllByRecursion (λ v. is_stride v ≡ true) strides → length strides ≤ 1 → AllByRecursion (λ v. is_rule v ≡ true) rules
     → calls Kinds p (kinds ++ (goal ∷ (strides ++ (rules ++ (end ∷ []))))) ≡ map of kinds ++ (of goal ∷ (map of strides ++ (settled ∷ map of rules)))
 of_kinds [] (kind size price counts) strides rules p k g s o h = true_not g
 of_kinds [] (band low high) strides rules p k g s o h = ap (λ (t : List Operation). of (band low high) ∷ t) (of_goal p strides rules (p + 7) s o h)

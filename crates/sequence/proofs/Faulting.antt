@@ -1,6 +1,6 @@
 -- How a run that did not pass ended.
 use Rattle.std.proofs.Common.{◌≡◌, ℕ, true, false, List, [], ◌∷◌, ◌++◌, Some, None, Option, sym, refl, ap, ◌∙◌, subst, append_assoc, arith}
-use Rattle.std.specs.List.{AllByRecursion as All}
+use Rattle.std.specs.List.{AllByRecursion}
 use Rattle.fields.specs.Values.{Value, field, write, Fine}
 use Rattle.fields.specs.Reading.{got, first, Stop, broken, closed, Left}
 use Rattle.fields.proofs.Laws.{one}
@@ -70,7 +70,7 @@ stop_fault m (closed (y ∷ ys)) n q rest s x e l d =
     let a : ◌≡◌ {A = Fault} (out_of_sequence q) x = cc in subst (λ (z : Fault). FaultAt m n q rest s z s) a (beyond y ys d l)
 
 pub ending_fault : {S : Type 0} (m : Machine S) (stop : Stop) (n : Phase) (q : ℕ) (ws : List Value) (s : S) (log : List Ruled) (x : Fault) (t : S) (log' : List Ruled) (rest : List ℕ)
-    → Ending m stop n q ws s log (record { fault = Some x; state = t; answers = log' }) → Left stop rest → (ws ≡ [] → Closes stop n) → All Fine ws
+    → Ending m stop n q ws s log (record { fault = Some x; state = t; answers = log' }) → Left stop rest → (ws ≡ [] → Closes stop n) → AllByRecursion Fine ws
     → FaultAt m n q (write ws ++ rest) s x t × (log' ≡ log)
 ending_fault {S = S} m stop n q [] s log x t log' rest e l d fine =
     let a : stopped stop q ≡ Some x = sym (ap (λ (o : Outcome S). o.fault) e) in

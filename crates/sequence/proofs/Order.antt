@@ -1,6 +1,6 @@
 -- The phases accept exactly the fields in order.
 use Rattle.std.proofs.Common.{◌≡◌, ℕ, ◌+◌, ◌≤◌, Bool, true, false, List, [], ◌∷◌, ◌++◌, length, Some, None, Option, sym, refl, ap, ◌∙◌, subst, arith, length-append}
-use Rattle.std.specs.List.{AllByRecursion as All}
+use Rattle.std.specs.List.{AllByRecursion}
 use Rattle.fields.specs.Values.{Value, kind, band, list, stride, rule_out_field, end, field, write}
 use Rattle.sequence.specs.declared.phase.Phase.{Phase}
 use Rattle.sequence.specs.declared.phase.Phase.TheVariants.{Kinds, Goal, Strided, Rules, Done}
@@ -20,7 +20,7 @@ done_nil [] p e = refl
 done_nil (v ∷ vs) p e = none_not Done e
 
 abbrev Ruling : List Value → Type 0
-Ruling vs = (rules : List Value) × (vs ≡ rules ++ (end ∷ [])) × All (λ v. is_rule v ≡ true) rules
+Ruling vs = (rules : List Value) × (vs ≡ rules ++ (end ∷ [])) × AllByRecursion (λ v. is_rule v ≡ true) rules
 
 from_rules_lem : (vs : List Value) (p : ℕ) → reach Rules p vs ≡ Some Done → Ruling vs
 from_rules_lem [] p e = not_done Rules refl e
@@ -46,8 +46,8 @@ from_strided g (end ∷ vs) p e = ([], ap (λ (t : List Value). end ∷ t) (done
 
 abbrev Settling : List Value → Type 0
 Settling vs =
-    (strides : List Value) × (rules : List Value) × (vs ≡ strides ++ (rules ++ (end ∷ []))) × All (λ v. is_stride v ≡ true) strides
-    × (length strides ≤ 1) × All (λ v. is_rule v ≡ true) rules
+    (strides : List Value) × (rules : List Value) × (vs ≡ strides ++ (rules ++ (end ∷ []))) × AllByRecursion (λ v. is_stride v ≡ true) strides
+    × (length strides ≤ 1) × AllByRecursion (λ v. is_rule v ≡ true) rules
 
 from_goal_lem : (g : ℕ) (vs : List Value) (p : ℕ) → reach (Goal g) p vs ≡ Some Done → Settling vs
 from_goal_lem g [] p e = not_done (Goal g) refl e
@@ -104,7 +104,7 @@ from_kinds_lem (end ∷ vs) p e = none_not Done e
 pub only : (vs : List Value) → reach Kinds 0 vs ≡ Some Done → InOrder vs
 only vs e = from_kinds_lem vs 0 e
 
-to_rules : (rules : List Value) (p : ℕ) → All (λ v. is_rule v ≡ true) rules → reach Rules p (rules ++ (end ∷ [])) ≡ Some Done
+to_rules : (rules : List Value) (p : ℕ) → AllByRecursion (λ v. is_rule v ≡ true) rules → reach Rules p (rules ++ (end ∷ [])) ≡ Some Done
 to_rules [] p h = refl
 to_rules (kind size price counts ∷ vs) p h = true_not h.0
 to_rules (band low high ∷ vs) p h = true_not h.0
@@ -113,7 +113,7 @@ to_rules (stride modulus rest ∷ vs) p h = true_not h.0
 to_rules (rule_out_field k count ∷ vs) p h = to_rules vs (p + 5) h.1
 to_rules (end ∷ vs) p h = true_not h.0
 
-to_strided : (g : ℕ) (rules : List Value) (p : ℕ) → All (λ v. is_rule v ≡ true) rules → reach (Strided g) p (rules ++ (end ∷ [])) ≡ Some Done
+to_strided : (g : ℕ) (rules : List Value) (p : ℕ) → AllByRecursion (λ v. is_rule v ≡ true) rules → reach (Strided g) p (rules ++ (end ∷ [])) ≡ Some Done
 to_strided g [] p h = refl
 to_strided g (kind size price counts ∷ vs) p h = true_not h.0
 to_strided g (band low high ∷ vs) p h = true_not h.0
@@ -122,7 +122,7 @@ to_strided g (stride modulus rest ∷ vs) p h = true_not h.0
 to_strided g (rule_out_field k count ∷ vs) p h = to_rules vs (p + 5) h.1
 to_strided g (end ∷ vs) p h = true_not h.0
 
-to_unstrided : (g : ℕ) (rules : List Value) (p : ℕ) → All (λ v. is_rule v ≡ true) rules → reach (Goal g) p (rules ++ (end ∷ [])) ≡ Some Done
+to_unstrided : (g : ℕ) (rules : List Value) (p : ℕ) → AllByRecursion (λ v. is_rule v ≡ true) rules → reach (Goal g) p (rules ++ (end ∷ [])) ≡ Some Done
 to_unstrided g [] p h = refl
 to_unstrided g (kind size price counts ∷ vs) p h = true_not h.0
 to_unstrided g (band low high ∷ vs) p h = true_not h.0
@@ -131,7 +131,7 @@ to_unstrided g (stride modulus rest ∷ vs) p h = true_not h.0
 to_unstrided g (rule_out_field k count ∷ vs) p h = to_rules vs (p + 5) h.1
 to_unstrided g (end ∷ vs) p h = true_not h.0
 
-to_goal : (g : ℕ) (strides rules : List Value) (p : ℕ) → All (λ v. is_stride v ≡ true) strides → length strides ≤ 1 → All (λ v. is_rule v ≡ true) rules
+to_goal : (g : ℕ) (strides rules : List Value) (p : ℕ) → AllByRecursion (λ v. is_stride v ≡ true) strides → length strides ≤ 1 → AllByRecursion (λ v. is_rule v ≡ true) rules
     → reach (Goal g) p (strides ++ (rules ++ (end ∷ []))) ≡ Some Done
 to_goal g [] rules p s o h = to_unstrided g rules p h
 to_goal g (kind size price counts ∷ vs) rules p s o h = true_not s.0
@@ -143,7 +143,7 @@ to_goal g (rule_out_field k count ∷ vs) rules p s o h = true_not s.0
 to_goal g (end ∷ vs) rules p s o h = true_not s.0
 
 to_kinds : (kinds : List Value) (goal : Value) (strides rules : List Value) (p : ℕ)
-    → All (λ v. is_kind v ≡ true) kinds → is_goal goal ≡ true → All (λ v. is_stride v ≡ true) strides → length strides ≤ 1 → All (λ v. is_rule v ≡ true) rules
+    → AllByRecursion (λ v. is_kind v ≡ true) kinds → is_goal goal ≡ true → AllByRecursion (λ v. is_stride v ≡ true) strides → length strides ≤ 1 → AllByRecursion (λ v. is_rule v ≡ true) rules
     → reach Kinds p (kinds ++ (goal ∷ (strides ++ (rules ++ (end ∷ []))))) ≡ Some Done
 to_kinds [] (kind size price counts) strides rules p k g s o h = true_not g
 to_kinds [] (band low high) strides rules p k g s o h = to_goal p strides rules (p + 7) s o h

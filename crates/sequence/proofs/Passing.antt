@@ -1,6 +1,6 @@
 -- Fields in sequence whose calls are all accepted pass.
 use Rattle.std.proofs.Common.{◌≡◌, ℕ, ◌+◌, Bool, true, false, List, [], ◌∷◌, ◌++◌, length, Some, None, Option, sym, refl, ap, ◌∙◌, subst, append_assoc, arith, length-append}
-use Rattle.std.specs.List.{AllByRecursion as All}
+use Rattle.std.specs.List.{AllByRecursion}
 use Rattle.fields.specs.Values.{Value, kind, band, list, stride, rule_out_field, end, field, write, Fine}
 use Rattle.fields.specs.Reading.{Stop, closed, fields, is_end, Open}
 use Rattle.fields.proofs.Laws.{reads, end_is}
@@ -100,18 +100,18 @@ pub write_append : (us ws : List Value) → write (us ++ ws) ≡ write us ++ wri
 write_append [] ws = refl
 write_append (u ∷ us) ws = ap (λ (t : List ℕ). field u ++ t) (write_append us ws) ∙ sym (append_assoc (field u) (write us) (write ws))
 
-pub fine_front : (us ws : List Value) → All Fine (us ++ ws) → All Fine us
+pub fine_front : (us ws : List Value) → AllByRecursion Fine (us ++ ws) → AllByRecursion Fine us
 fine_front [] ws h = tt
 fine_front (u ∷ us) ws h = (h.0, fine_front us ws h.1)
 
-pub fine_back : (us ws : List Value) → All Fine (us ++ ws) → All Fine ws
+pub fine_back : (us ws : List Value) → AllByRecursion Fine (us ++ ws) → AllByRecursion Fine ws
 fine_back [] ws h = h
 fine_back (u ∷ us) ws h = fine_back us ws h.1
 
 -- the writing of such fields reads as them, to the last byte
-pub fields_whole : (vs : List Value) → Lasts vs → All Fine vs → fields (write vs) ≡ record { values = vs; stop = closed [] }
+pub fields_whole : (vs : List Value) → Lasts vs → AllByRecursion Fine vs → fields (write vs) ≡ record { values = vs; stop = closed [] }
 fields_whole vs l fine =
     let us = l.0 in
-    let f : All Fine (l.0 ++ (end ∷ [])) = subst (All Fine) l.1 fine in
+    let f : AllByRecursion Fine (l.0 ++ (end ∷ [])) = subst (AllByRecursion Fine) l.1 fine in
     ap fields (ap write l.1 ∙ write_append l.0 (end ∷ []))
     ∙ (reads l.0 [] (fine_front l.0 (end ∷ []) f) l.2 ∙ ap (λ (t : List Value). record { values = t; stop = closed [] }) (sym l.1))

@@ -1,7 +1,7 @@
 -- From the outcome of a run to all that is said of it.
 use Rattle.std.proofs.Common.{◌≡◌, ℕ, ◌<◌, ◌≤◌, ltb, ◌⊎◌, List, [], ◌++◌, length, Some, None, Option, sym, refl, ap, ◌∙◌, subst, inl, inr, append_assoc, append-nil, arith}
 use Rattle.std.proofs.lemmas.Bool.{cond-true, cond-false, le-ltb, lt-ltb, cases_lt}
-use Rattle.std.specs.List.{AllByRecursion as All}
+use Rattle.std.specs.List.{AllByRecursion}
 use Rattle.fields.specs.Values.{Value, write, Fine}
 use Rattle.fields.specs.Reading.{Bytes, Stop, broken, closed, Fields, fields, Left, Ends}
 use Rattle.fields.proofs.Laws.{wrote}
@@ -70,7 +70,7 @@ module _ {S : Type 0} (m : Machine S) (file : List ℕ) (s t : S) (log : List Ru
   faulted_at : (x : Fault) → Track m (fields file).stop (fields file).values Kinds 0 s [] (record { fault = Some x; state = t; answers = log }) → Faulted m file s x t log
   faulted_at x r =
       let w = wrote file by in
-      let fine : All Fine (r.us ++ r.ws) = subst (All Fine) r.parts w.3 in
+      let fine : AllByRecursion Fine (r.us ++ r.ws) = subst (AllByRecursion Fine) r.parts w.3 in
       let at : r.q ≡ length (write r.us) = omega (arith, r.place) in
       let c : r.ws ≡ [] → Closes (fields file).stop r.next =
       λ e.
@@ -107,7 +107,7 @@ module _ {S : Type 0} (m : Machine S) (file : List ℕ) (s t : S) (log : List Ru
       ]
 
   whole_of : (f : Option Fault) → outcome m s file ≡ record { fault = f; state = t; answers = log }
-      → (values : List Value) (order : InOrder values) → file ≡ write values → All Fine values → length file ≤ 16384 → AllAccepted m s (calls_in order) → f ≡ None
+      → (values : List Value) (order : InOrder values) → file ≡ write values → AllByRecursion Fine values → length file ≤ 16384 → AllAccepted m s (calls_in order) → f ≡ None
   whole_of f e values order is fine h acc =
       let r = all values order in
       let fs : fields file ≡ record { values = values; stop = closed [] } = ap fields is ∙ fields_whole values (lasts values Kinds 0 refl r) fine in

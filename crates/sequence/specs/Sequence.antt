@@ -1,6 +1,6 @@
 -- The order of fields in a file: any number of kinds, one goal, at most one stride directly after it, any number of rule-outs, the end.
 use Rattle.std.specs.Prelude.{◌≡◌, ℕ, ◌+◌, ◌≤◌, Bool, true, false, cond, List, [], ◌∷◌, ◌++◌, length, Some, None, Option}
-use Rattle.std.specs.List.{AllByRecursion as All}
+use Rattle.std.specs.List.{AllByRecursion}
 use Rattle.fields.specs.Values.{Value, kind, band, list, stride, rule_out_field, end, field, write}
 use Rattle.sequence.specs.declared.phase.Phase.{Phase}
 use Rattle.sequence.specs.declared.phase.Phase.TheVariants.{Kinds, Goal, Strided, Rules, Done}
@@ -109,11 +109,11 @@ pub record InOrder (vs : List Value) : Type 0 where
   pub strides : List Value
   pub rules : List Value
   pub parts : vs ≡ kinds ++ (goal ∷ (strides ++ (rules ++ (end ∷ []))))
-  pub all_kinds : All (λ v. is_kind v ≡ true) kinds
+  pub all_kinds : AllByRecursion (λ v. is_kind v ≡ true) kinds
   pub one_goal : is_goal goal ≡ true
-  pub all_strides : All (λ v. is_stride v ≡ true) strides
+  pub all_strides : AllByRecursion (λ v. is_stride v ≡ true) strides
   pub one_stride : length strides ≤ 1
-  pub all_rules : All (λ v. is_rule v ≡ true) rules
+  pub all_rules : AllByRecursion (λ v. is_rule v ≡ true) rules
 
 -- the phases accept exactly the fields in order; fields that are in sequence so far are the beginning of some in order
 pub record Sequenced : Type 0 where

@@ -1,7 +1,7 @@
 -- What a run is, in the words of files, fields and operations.
 use Rattle.std.specs.Prelude.{◌≡◌, ℕ, ◌+◌, ◌<◌, ◌≤◌, Bool, true, false, cond, ◌⊎◌, List, [], ◌∷◌, ◌++◌, map, length, Some, None, Option}
 use Rattle.fields.specs.declared.field.Cause.{Cause}
-use Rattle.std.specs.List.{AllByRecursion as All}
+use Rattle.std.specs.List.{AllByRecursion}
 use Rattle.fields.specs.Values.{Value, field, write, Fine}
 use Rattle.fields.specs.Reading.{bad, got, first, is_end}
 use Rattle.fields.specs.Causes.{cause_number}
@@ -71,7 +71,7 @@ ruled_by m s (c ∷ cs) = note_of c (number (m s c).1) ++ ruled_by m (m s c).0 c
 pub record Completed {S : Type 0} (m : Machine S) (file : List ℕ) (before after : S) (log : List Ruled) : Type 0 where
   pub values : List Value
   pub file_is : file ≡ write values
-  pub fine : All Fine values
+  pub fine : AllByRecursion Fine values
   pub order : InOrder values
   pub all_accepted : AllAccepted m before (calls_in order)
   pub state : after ≡ after_all m before (calls_in order)
@@ -99,7 +99,7 @@ pub record Faulted {S : Type 0} (m : Machine S) (file : List ℕ) (before : S) (
   pub rest : List ℕ
   pub phase : Phase
   pub file_is : file ≡ write values ++ rest
-  pub fine : All Fine values
+  pub fine : AllByRecursion Fine values
   pub sequence : reach Kinds 0 values ≡ Some phase
   pub all_accepted : AllAccepted m before (calls Kinds 0 values)
   pub answers : log ≡ ruled_by m before (calls Kinds 0 values)
@@ -118,5 +118,5 @@ pub record Ran {S : Type 0} (m : Machine S) (file : List ℕ) (before : S) (f : 
   pub done : f ≡ None → Completed m file before after log
   pub faults : (x : Fault) → f ≡ Some x → TooMany m file before x after log ⊎ Faulted m file before x after log
   -- fields in order whose calls are all accepted are run without fault
-  pub whole : (values : List Value) (order : InOrder values) → file ≡ write values → All Fine values → length file ≤ 16384
+  pub whole : (values : List Value) (order : InOrder values) → file ≡ write values → AllByRecursion Fine values → length file ≤ 16384
       → AllAccepted m before (calls_in order) → f ≡ None
