@@ -1,5 +1,5 @@
 #!/bin/sh
-# Sets up and runs the main job on an example: proves and builds the program `fill`, then runs it on a case file and shows what it prints.
+# Sets up and runs the main job on an example: proves and builds the program `fill_case`, then runs it on a case file and shows what it prints.
 #
 #     ./run-example.sh [FILE]        FILE is a case file; without it, examples/four-kinds.case
 set -e
@@ -8,11 +8,10 @@ case $file in
     /*) ;;
     *) file=$PWD/$file ;;
 esac
-cd "$(dirname "$0")"
-mkdir -p target
-if ! rt check fill >target/setup.log 2>&1; then
-    cat target/setup.log
+cd "$(dirname "$0")/crates/fill_case"
+echo "fill_case < $(basename "$file")"
+mkdir -p out
+if ! rt run <"$file" 2>out/setup.log; then
+    cat out/setup.log
     exit 1
 fi
-echo "fill < $(basename "$file")"
-exec target/bin/fill <"$file"

@@ -8,11 +8,11 @@ turns=${1:-30}
 work=$(mktemp -d)
 trap 'rm -rf "$work"' EXIT
 
-rt check bench >"$work/log" 2>&1 || { cat "$work/log"; exit 1; }
+(cd crates/bench && rt run >"$work/log" 2>&1) || { cat "$work/log"; exit 1; }
 rustc --edition 2021 -C opt-level=3 -C codegen-units=1 -o "$work/rust" bench/rust/bench.rs
 
 for round in 1 2 3; do
-    target/bin/bench "$turns" >>"$work/ours"
+    crates/bench/out/bench "$turns" >>"$work/ours"
     "$work/rust" "$turns" >>"$work/theirs"
 done
 

@@ -3,22 +3,16 @@
 # applied to a copy of that program, and the compiler must refuse the copy with the error that the edit expects. (A must-fail edit has to reach
 # the prover; these do not get so far.) The program as it stands must be taken.
 cd "$(dirname "$0")/.." || exit 2
-root=$PWD
-kit=$(dirname "$(dirname "$(rt doc)")")
 crate=branch_use
 work=$(mktemp -d) || exit 2
 trap 'rm -rf "$work"' EXIT
 
-# What the compiler says of the copy in $work/src, with every library as source.
+# A copy of the sources alone.
+cp crates.txt "$work/" && tar -cf - --exclude=out --exclude=target crates | tar -xf - -C "$work" || exit 2
+
+# What the compiler says of the program in the copy, before any proof.
 compile() {
-    set --
-    while IFS=: read -r lib used; do
-        set -- "$@" --lib "$lib:$(echo $used | tr ' ' ,)=$kit/$lib/src/lib.rt"
-    done <"$kit/libs.txt"
-    for lib in $(sed -n "s/^$crate: //p" "$root/crates.txt"); do
-        set -- "$@" --lib "$lib=$root/crates/$lib/src/lib.rt"
-    done
-    "$kit/bin/rattle" check --crate-name "$crate" --antt-project "$kit/logic/antt-project.json" "$work/src/main.rt" "$@" 2>&1 | head -n 20
+    (cd "$work/crates/$crate" && rt try 2>&1)
 }
 
 # Applies the edit file $1 to the copy: its 'old:' text must stand there once.
@@ -31,11 +25,14 @@ apply() {
             rest = substr(text, at + length(ENVIRON["OLD"]))
             if (index(rest, ENVIRON["OLD"])) exit 4
             printf "%s%s%s", substr(text, 1, at - 1), ENVIRON["NEW"], rest
-        }' "$root/crates/$crate/src/main.rt" >"$work/src/main.rt"
+        }' "crates/$crate/src/main.rt" >"$work/crates/$crate/src/main.rt"
 }
 
 bad=0
-mkdir "$work/src"
+if compile | grep -q 'error\['; then
+    echo "misuse: the program as it stands is refused"
+    bad=1
+fi
 for edit in crates/$crate/misuse/*.edit; do
     want=$(sed -n 's/^expect: //p' "$edit")
     if ! apply "$edit"; then

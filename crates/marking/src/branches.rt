@@ -1,5 +1,5 @@
 // Open branches: their numbers, and the sets that each of them noted.
-ghost use Rattle.std.specs.Prelude.{◌≡◌, ℕ, ◌+◌, ◌-◌, ◌<◌, ◌≤◌, true, false, [], length, nat_le, slice_index_or, slice_set};
+ghost use Rattle.std.specs.Prelude.{◌≡◌, ◌+◌, ◌-◌, ◌<◌, ◌≤◌, true, false, [], length, nat_le, slice_index_or, slice_set};
 
 // Whether as many branches are open as can be.
 pub fn is_full(opened: usize) -> bool

@@ -1,5 +1,5 @@
 // Sets of counts, one for each kind.
-ghost use Rattle.std.specs.Prelude.{◌≡◌, ℕ, ◌+◌, ◌*◌, ◌<◌, ◌≤◌, true, ◌&&◌, map, length, take, nat_le, slice_index};
+ghost use Rattle.std.specs.Prelude.{◌≡◌, ◌+◌, ◌*◌, ◌<◌, ◌≤◌, true, ◌&&◌, map, length, take, nat_le, slice_index};
 ghost use Rattle.model.specs.Sets.{has, held_in_all};
 ghost use Rattle.meaning.specs.Strike.{strike, struck};
 

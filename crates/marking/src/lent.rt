@@ -1,5 +1,5 @@
 // The lent tables of a call, filled for the sets of a trial, and then for the sets that stand.
-ghost use Rattle.std.specs.Prelude.{◌≡◌, ℕ, ◌+◌, ◌*◌, ◌<◌, ◌≤◌, true, length, take, nat_lt, slice_index};
+ghost use Rattle.std.specs.Prelude.{◌≡◌, ◌+◌, ◌*◌, ◌<◌, ◌≤◌, true, length, take, nat_lt, slice_index};
 ghost use Rattle.meaning.specs.Models.{yes_no};
 ghost use Rattle.model.specs.Parts.{parts};
 ghost use Rattle.meaning.specs.Cells.{over, tallies, tallies_back};

@@ -1,5 +1,5 @@
 // The band or list that a field names.
-ghost use Rattle.std.specs.Prelude.{◌≡◌, ◌+◌, ◌*◌, ◌<◌, ◌≤◌, length, take, slice_index};
+ghost use Rattle.std.specs.Prelude.{◌≡◌, ◌+◌, ◌*◌, ◌<◌, length, take, slice_index};
 ghost use Rattle.model.specs.Answers.{outcome_as};
 ghost use Rattle.model.specs.Goals.{band_made, list_made};
 ghost use Rattle.fields.specs.Reading.{totals as totalsIn};

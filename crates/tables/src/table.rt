@@ -1,5 +1,5 @@
 // A table of (n+1) × (top+1) cells over a lent slice: cell (i, b) is at place i × width + b.
-ghost use Rattle.std.specs.Prelude.{◌≡◌, ℕ, ◌+◌, ◌*◌, ◌<◌, ◌≤◌, length, drop, replicate, slice_index_or};
+ghost use Rattle.std.specs.Prelude.{◌≡◌, ◌+◌, ◌*◌, ◌<◌, ◌≤◌, length, drop, replicate, slice_index_or};
 ghost use Rattle.model.specs.Parts.{parts};
 ghost use Rattle.meaning.specs.Cells.{over, tallies, tallies_back, Ready};
 ghost use Rattle.meaning.specs.Models.{yes_no};

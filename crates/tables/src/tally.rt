@@ -1,5 +1,5 @@
 // The tally of a plan: the forward pass, and then the admitted places of its last row.
-ghost use Rattle.std.specs.Prelude.{◌≡◌, ℕ, ◌+◌, ◌*◌, ◌<◌, ◌≤◌, map, length, get_or, if◌then◌else◌, filter, slice_index_or};
+ghost use Rattle.std.specs.Prelude.{◌≡◌, ◌+◌, ◌*◌, ◌<◌, ◌≤◌, map, length, get_or, if◌then◌else◌, filter, slice_index_or};
 ghost use Rattle.std.specs.List.{range_with_len};
 ghost use Rattle.model.specs.Parts.{parts};
 ghost use Rattle.meaning.specs.Cells.{over, tallies, Ready};

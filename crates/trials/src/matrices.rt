@@ -1,5 +1,5 @@
 // A measure whose chain does not commute: two-by-two matrices of bits. It shows that worths are chained in kind order.
-ghost use Rattle.std.specs.Prelude.{◌≡◌, ◌≤◌, cond, ◌&&◌, ◌||◌};
+ghost use Rattle.std.specs.Prelude.{◌≡◌, ◌≤◌, ◌&&◌, ◌||◌};
 ghost use Rattle.trials.specs.Matrices.{entry_of, matrices};
 ghost use Rattle.trials.specs.Sixteen.{matrices_laws};
 

@@ -1,5 +1,5 @@
 // The calls of a case.
-ghost use Rattle.std.specs.Prelude.{◌≡◌, ◌+◌, ◌<◌, List, [], set, slice_set};
+ghost use Rattle.std.specs.Prelude.{◌≡◌, ◌+◌, ◌<◌, [], slice_set};
 ghost use Rattle.model.specs.Answers.{answer_of, option_as};
 ghost use Rattle.model.specs.Cases.{add_refused, added, allowed_parts, kinds_in};
 ghost use Rattle.model.specs.Refusals.{number_of};

@@ -1,5 +1,5 @@
 // Branches: what is ruled out after one was opened can be withdrawn.
-ghost use Rattle.std.specs.Prelude.{◌≡◌, ℕ, length};
+ghost use Rattle.std.specs.Prelude.{◌≡◌, length};
 ghost use Rattle.model.specs.Answers.{GivenBack, answer_of, outcome_as, outcome_back};
 ghost use Rattle.meaning.specs.Life.{backward_marks, forward_marks, remarked, Called};
 ghost use Rattle.meaning.specs.Register.{branch as Opening, keep as Keeping, withdraw as Withdrawing};

@@ -1,10 +1,10 @@
 // Whole histories: a settle, any list of calls, and a tally.
-ghost use Rattle.std.specs.Prelude.{◌≡◌, ℕ, map, length, Some};
+ghost use Rattle.std.specs.Prelude.{◌≡◌, map, length, Some};
 ghost use Rattle.model.specs.Answers.{answer_of, outcome_back};
 ghost use Rattle.model.specs.Cases.{kinds_in};
 ghost use Rattle.meaning.specs.History.{WholeHistory, marked_by, tallied_by};
 ghost use Rattle.meaning.specs.Life.{backward_marks, forward_marks, life_after, replies, Called, Remarks};
-ghost use Rattle.meaning.specs.Register.{branch as Opening, keep as Keeping, rule_out as RulingOut, withdraw as Withdrawing};
+ghost use Rattle.meaning.specs.Register.{branch as Opening, keep as Keeping};
 ghost use Rattle.plan.specs.Entries.{Untried, answers_in, asked, calls_in, calls_of, ending_of, reply_of};
 ghost use Rattle.plan.specs.Seen.{cells_for, life};
 

@@ -1,5 +1,5 @@
 // Ruling out a count.
-ghost use Rattle.std.specs.Prelude.{◌≡◌, ℕ, length};
+ghost use Rattle.std.specs.Prelude.{◌≡◌, length};
 ghost use Rattle.model.specs.Answers.{answer_of};
 ghost use Rattle.meaning.specs.Life.{backward_marks, forward_marks, marked, Called};
 ghost use Rattle.meaning.specs.Register.{rule_out as RuleOut};

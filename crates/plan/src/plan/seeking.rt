@@ -1,5 +1,5 @@
 // The loads of a plan, one by one.
-ghost use Rattle.std.specs.Prelude.{◌≡◌, ℕ, length, Some, None};
+ghost use Rattle.std.specs.Prelude.{◌≡◌, length, Some, None};
 ghost use Rattle.meaning.specs.Life.{backward_marks, forward_marks};
 ghost use Rattle.meaning.specs.Seeking.{Found, marked_for, start_of};
 ghost use Rattle.plan.specs.Seen.{life};
@@ -22,7 +22,7 @@ impl<G: Goal + Drop> Plan<G> {
         backward: &mut [u8],
     ) -> Result<(), Refusal>
         ensures finds { Found (life G.Goal.means self.now) (start_of onwards load.old) (length forward.old) (length backward.old) load.old load.new (load_said result load.new) }
-        ensures same { self.now ≡ self.now }
+        ensures same { self.exit.now ≡ self.entry.now }
         ensures forward { forward.new ≡ marked_for (forward_marks (life G.Goal.means self.now)) (load_said result load.new) forward.old }
         ensures backward { backward.new ≡ marked_for (backward_marks (life G.Goal.means self.now)) (load_said result load.new) backward.old }
     {
@@ -54,7 +54,7 @@ impl<G: Goal + Drop> Plan<G> {
         backward: &mut [u8],
     ) -> Result<(), Refusal>
         ensures finds { Found (life G.Goal.means self.now) None (length forward.old) (length backward.old) load.old load.new (load_said result load.new) }
-        ensures same { self.now ≡ self.now }
+        ensures same { self.exit.now ≡ self.entry.now }
         ensures forward { forward.new ≡ marked_for (forward_marks (life G.Goal.means self.now)) (load_said result load.new) forward.old }
         ensures backward { backward.new ≡ marked_for (backward_marks (life G.Goal.means self.now)) (load_said result load.new) backward.old }
     {
@@ -69,7 +69,7 @@ impl<G: Goal + Drop> Plan<G> {
         backward: &mut [u8],
     ) -> Result<(), Refusal>
         ensures finds { Found (life G.Goal.means self.now) (Some load.old) (length forward.old) (length backward.old) load.old load.new (load_said result load.new) }
-        ensures same { self.now ≡ self.now }
+        ensures same { self.exit.now ≡ self.entry.now }
         ensures forward { forward.new ≡ marked_for (forward_marks (life G.Goal.means self.now)) (load_said result load.new) forward.old }
         ensures backward { backward.new ≡ marked_for (backward_marks (life G.Goal.means self.now)) (load_said result load.new) backward.old }
     {

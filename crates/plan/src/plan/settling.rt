@@ -1,5 +1,5 @@
 // Making and settling a plan.
-ghost use Rattle.std.specs.Prelude.{◌≡◌, ℕ, ◌≤◌, length, ◌==◌};
+ghost use Rattle.std.specs.Prelude.{◌≡◌, length, ◌==◌};
 ghost use Rattle.model.specs.Answers.{answer_of};
 ghost use Rattle.model.specs.Cases.{kinds_in};
 ghost use Rattle.meaning.specs.Life.{backward_marks, blank as Blank, forward_marks, marked_first, Settled};

@@ -1,5 +1,5 @@
 // What a plan tells, without being changed.
-ghost use Rattle.std.specs.Prelude.{◌≡◌, ℕ, ◌+◌, ◌*◌, ◌≤◌, length};
+ghost use Rattle.std.specs.Prelude.{◌≡◌, ◌+◌};
 ghost use Rattle.model.specs.Answers.{answer_of, outcome_as};
 ghost use Rattle.meaning.specs.Life.{Standing, Tallied};
 ghost use Rattle.plan.specs.Seen.{life};
@@ -18,7 +18,7 @@ impl<G: Goal + Drop> Plan<G> {
     // The set of the counts of a kind that stand.
     pub fn standing(&self, kind: u64) -> Result<u64, Refusal>
         ensures tells { Standing (life G.Goal.means self.now) kind (answer_of result) }
-        ensures same { self.now ≡ self.now }
+        ensures same { self.exit.now ≡ self.entry.now }
     {
         let many = self.case.kinds().len();
         if many == 0 {
@@ -34,7 +34,7 @@ impl<G: Goal + Drop> Plan<G> {
     // counts for kinds 1 to i that total b.
     pub fn tally<M: Measure>(&self, values: &mut [M::Value]) -> Result<M::Value, Refusal>
         ensures tells { Tallied M.Measure.means (life G.Goal.means self.now) values.old values.new (outcome_as (λ v. v) result) }
-        ensures same { self.now ≡ self.now }
+        ensures same { self.exit.now ≡ self.entry.now }
     {
         let kinds = self.case.kinds();
         let many = kinds.len();
