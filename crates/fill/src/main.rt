@@ -1,4 +1,4 @@
-// The planner's program. Today it settles one worked case and prints what stands, the first load and the three tallies.
+// Settles one worked case, made through the library, under two goals and prints what stands, the first load and the three tallies.
 #![tactic(auto)]
 
 use measures::loads::Loads;

@@ -1,7 +1,7 @@
 -- What holds of sixteen values, by one computed test.
 use Rattle.std.specs.Prelude.{◌≡◌, ℕ, ◌%◌, ◌<◌, Bool, true, false, cond, List, ◌==◌, bit_or, nat_eq, nat_lt, refl}
 use Rattle.std.proofs.Common.{arith}
-use Rattle.std.specs.List.{range_with_len, AllByRecursion}
+use Rattle.std.specs.List.{range_with_len}
 use Rattle.std.proofs.lemmas.Bool.{eqb-true, ltb-true}
 use Rattle.model.proofs.Lists.{In, all_in, in_counting}
 use Rattle.meaning.specs.Measures.{Laws}
