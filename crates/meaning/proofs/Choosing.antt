@@ -1,6 +1,6 @@
 -- The recurrence gives the tallies of all choices.
 use Rattle.std.proofs.Common.{◌≡◌, ℕ, zero, suc, ◌+◌, ◌-◌, ◌*◌, ◌<◌, ◌≤◌, Bool, true, false, cond, T, eqb, ltb, leb, ◌⊎◌, List, [], ◌∷◌, map, length, get_or, take, drop, fold, filter, sym, refl, ap, ◌∙◌, subst, inl, inr, arith}
-use Rattle.std.proofs.lemmas.List.{take_all, drop_all}
+use Rattle.std.proofs.lemmas.List.{drop_all}
 use Rattle.std.specs.List.{range_with_len, AllByRecursion}
 use Rattle.std.proofs.lemmas.Bool.{cases_lt, cases_eq, cond-true, cond-false, le-leb, lt-leb, eq-eqb, ne_eqb, cases_Bool, lt-ltb}
 use Rattle.std.proofs.ByRecursion.{all_kept_by, All-map, All-weaker, All-take, All-drop}
@@ -314,11 +314,11 @@ module _ {V : Type 0} (m : Means V) (laws : Laws m) where
   map_all P f g e (x ∷ xs) a = ap (λ y. y ∷ map f xs) (e x a.0) ∙ ap (λ ys. g x ∷ ys) (map_all P f g e xs a.1)
 
   -- the answer of `tally`, from what the table holds
-  pub row_answers : (admitted : ℕ → Bool) (w u : ℕ) → ((t : ℕ) → admitted t ≡ true → t < w) → (ps : List Part) → AllByRecursion Cheap ps → (n : ℕ) → length ps ≡ n → (cells : List V) → Holds (tallies m ps w) cells → u ≡ w → join_of m (map (λ b. get_or cells (n * u + b) m.zero) (filter admitted (range_with_len 0 u))) ≡ tally_of m admitted ps
-  row_answers admitted w u bound ps a n e cells held same =
-      ap (λ v. join_of m (map (λ b. get_or cells (n * v + b) m.zero) (filter admitted (range_with_len 0 v)))) same
-      ∙ ap (join_of m) (map_all (λ b. b < w) (λ b. get_or cells (n * w + b) m.zero) (tally_at m ps)
-      (λ b l. holds_at m.zero (length ps + 1) w (λ i b. tally_at m (take i ps) b) cells held n b (omega arith) l ∙ ap (λ qs. tally_at m qs b) (take_all n ps (omega arith)))
+  -- the admitted places of the last row, joined
+  pub row_answers : (admitted : ℕ → Bool) (w : ℕ) → ((t : ℕ) → admitted t ≡ true → t < w) → (ps : List Part) → AllByRecursion Cheap ps → (row : List V) → length row ≡ w → ((b : ℕ) → b < w → get_or row b m.zero ≡ tally_at m ps b) → join_of m (map (λ b. get_or row b m.zero) (filter admitted (range_with_len 0 (length row)))) ≡ tally_of m admitted ps
+  row_answers admitted w bound ps a row long at =
+      ap (λ v. join_of m (map (λ b. get_or row b m.zero) (filter admitted (range_with_len 0 v)))) long
+      ∙ ap (join_of m) (map_all (λ b. b < w) (λ b. get_or row b m.zero) (tally_at m ps) at
       (filter admitted (range_with_len 0 w)) (all_kept_by admitted (λ b. b < w) (range_with_len 0 w) (counting_below 0 w w (omega arith))))
       ∙ row_is_tally admitted w bound ps a
 

@@ -1,10 +1,10 @@
 -- The four measures keep the laws.
-use Rattle.std.proofs.Common.{◌≡◌, ℕ, zero, suc, ◌+◌, ◌*◌, ◌<◌, ◌≤◌, Some, None, Option, sym, refl, ap, ◌∙◌, inl, inr, mul_assoc, mul_comm, add-mul, one-mul, mul-zero, zero-mul, mul-one, mul-add, arith}
+use Rattle.std.proofs.Common.{◌≡◌, ℕ, zero, suc, ◌+◌, ◌*◌, ◌<◌, ◌≤◌, Bool, true, false, cond, min, max, Some, None, Option, sym, refl, ap, ◌∙◌, inl, inr, mul_assoc, mul_comm, add-mul, one-mul, mul-zero, zero-mul, mul-one, mul-add, arith}
 use lib.Bits.{bit_and, bit_or}
 use Rattle.std.proofs.lemmas.Nat.{mul-le}
 use Rattle.std.proofs.lemmas.Bool.{cases_lt}
 use Rattle.meaning.specs.Measures.{Laws}
-use Rattle.meaning.specs.Models.{Price, added, cut, highest, larger, loads, lowest, smaller, yes_no}
+use Rattle.meaning.specs.Models.{Price, added, cut, highest, loads, lowest, price_by, taken, yes_no}
 
 -- what holds of 0 and of 1 holds of each v ≤ 1
 bits : (P : ℕ → Type 0) → P 0 → P 1 → (v : ℕ) → v ≤ 1 → P v
@@ -76,11 +76,7 @@ loads_laws = record {
   join_chain = λ a b c ha hb hc. cut_mul_l (a + b) c ∙ ap cut (add-mul a b c) ∙ sym (cut_add (a * c) (b * c));
 }
 
--- A law on options: at none it computes, and at three prices it is a law on numbers.
-opt : (P : Option ℕ → Type 0) → P None → ((x : ℕ) → x ≤ 4294967295 → P (Some x)) → (v : Option ℕ) → Price v → P v
-opt P n s None h = n
-opt P n s (Some x) h = s x h
-
+-- A law on prices: where one is none it computes, and at three numbers it is a law on numbers.
 worth_small : (p c : ℕ) → p ≤ 1000 → c < 64 → p * c ≤ 4294967295
 worth_small p c hp hc = omega (arith, mul-le p c 65536 64 (omega arith) (omega arith))
 
@@ -107,108 +103,93 @@ added_none : (a : Option ℕ) → Price a → added a None ≡ None
 added_none None h = refl
 added_none (Some x) h = refl
 
-has_smaller : (a b : Option ℕ) → Price a → Price b → Price (smaller a b)
-has_smaller None b ha hb = hb
-has_smaller (Some x) None ha hb = ha
-has_smaller (Some x) (Some y) ha hb = omega arith
+-- What is asked of the choice between two prices: it keeps within the cut, it is associative and commutative, and a sum of a chosen price
+-- is the chosen sum.
+pub record Picks (pick : ℕ → ℕ → ℕ) : Type 0 where
+  pub within : (x y : ℕ) → x ≤ 4294967295 → y ≤ 4294967295 → pick x y ≤ 4294967295
+  pub assoc : (x y z : ℕ) → pick (pick x y) z ≡ pick x (pick y z)
+  pub comm : (x y : ℕ) → pick x y ≡ pick y x
+  pub add_pick : (x y z : ℕ) → cut (x + pick y z) ≡ pick (cut (x + y)) (cut (x + z))
+  pub pick_add : (x y z : ℕ) → cut (pick x y + z) ≡ pick (cut (x + z)) (cut (y + z))
 
-smaller_assoc : (a b c : Option ℕ) → Price a → Price b → Price c → smaller (smaller a b) c ≡ smaller a (smaller b c)
-smaller_assoc None b c ha hb hc = refl
-smaller_assoc (Some x) None c ha hb hc = refl
-smaller_assoc (Some x) (Some y) None ha hb hc = refl
-smaller_assoc (Some x) (Some y) (Some z) ha hb hc = ap Some (omega arith)
+module _ (pick : ℕ → ℕ → ℕ) (p : Picks pick) where
+  has_taken : (a b : Option ℕ) → Price a → Price b → Price (taken pick a b)
+  has_taken None b ha hb = hb
+  has_taken (Some x) None ha hb = ha
+  has_taken (Some x) (Some y) ha hb = p.within x y ha hb
 
-smaller_comm : (a b : Option ℕ) → Price a → Price b → smaller a b ≡ smaller b a
-smaller_comm None None ha hb = refl
-smaller_comm None (Some y) ha hb = refl
-smaller_comm (Some x) None ha hb = refl
-smaller_comm (Some x) (Some y) ha hb = ap Some (omega arith)
+  taken_assoc : (a b c : Option ℕ) → Price a → Price b → Price c → taken pick (taken pick a b) c ≡ taken pick a (taken pick b c)
+  taken_assoc None b c ha hb hc = refl
+  taken_assoc (Some x) None c ha hb hc = refl
+  taken_assoc (Some x) (Some y) None ha hb hc = refl
+  taken_assoc (Some x) (Some y) (Some z) ha hb hc = ap Some (p.assoc x y z)
 
-smaller_none : (a : Option ℕ) → Price a → smaller a None ≡ a
-smaller_none None h = refl
-smaller_none (Some x) h = refl
+  taken_comm : (a b : Option ℕ) → Price a → Price b → taken pick a b ≡ taken pick b a
+  taken_comm None None ha hb = refl
+  taken_comm None (Some y) ha hb = refl
+  taken_comm (Some x) None ha hb = refl
+  taken_comm (Some x) (Some y) ha hb = ap Some (p.comm x y)
 
-added_smaller : (a b c : Option ℕ) → Price a → Price b → Price c → added a (smaller b c) ≡ smaller (added a b) (added a c)
-added_smaller None b c ha hb hc = refl
-added_smaller (Some x) None c ha hb hc = refl
-added_smaller (Some x) (Some y) None ha hb hc = refl
-added_smaller (Some x) (Some y) (Some z) ha hb hc = ap Some (omega arith)
+  taken_none : (a : Option ℕ) → Price a → taken pick a None ≡ a
+  taken_none None h = refl
+  taken_none (Some x) h = refl
 
-smaller_added : (a b c : Option ℕ) → Price a → Price b → Price c → added (smaller a b) c ≡ smaller (added a c) (added b c)
-smaller_added None b c ha hb hc = refl
-smaller_added (Some x) None None ha hb hc = refl
-smaller_added (Some x) None (Some z) ha hb hc = refl
-smaller_added (Some x) (Some y) None ha hb hc = refl
-smaller_added (Some x) (Some y) (Some z) ha hb hc = ap Some (omega arith)
+  added_taken : (a b c : Option ℕ) → Price a → Price b → Price c → added a (taken pick b c) ≡ taken pick (added a b) (added a c)
+  added_taken None b c ha hb hc = refl
+  added_taken (Some x) None c ha hb hc = refl
+  added_taken (Some x) (Some y) None ha hb hc = refl
+  added_taken (Some x) (Some y) (Some z) ha hb hc = ap Some (p.add_pick x y z)
+
+  taken_added : (a b c : Option ℕ) → Price a → Price b → Price c → added (taken pick a b) c ≡ taken pick (added a c) (added b c)
+  taken_added None b c ha hb hc = refl
+  taken_added (Some x) None None ha hb hc = refl
+  taken_added (Some x) None (Some z) ha hb hc = refl
+  taken_added (Some x) (Some y) None ha hb hc = refl
+  taken_added (Some x) (Some y) (Some z) ha hb hc = ap Some (p.pick_add x y z)
+
+  pub price_laws : Laws (price_by pick)
+  price_laws = record {
+    has_zero = tt;
+    has_one = omega arith;
+    has_join = has_taken;
+    has_chain = has_added;
+    has_worth = worth_small;
+    join_assoc = taken_assoc;
+    join_comm = taken_comm;
+    join_zero = taken_none;
+    chain_assoc = added_assoc;
+    one_chain = zero_added;
+    chain_one = added_zero;
+    zero_chain = λ a h. refl;
+    chain_zero = added_none;
+    chain_join = added_taken;
+    join_chain = taken_added;
+  }
+
+min_picks : Picks min
+min_picks = record {
+  within = λ x y hx hy. omega arith;
+  assoc = λ x y z. omega arith;
+  comm = λ x y. omega arith;
+  add_pick = λ x y z. omega arith;
+  pick_add = λ x y z. omega arith;
+}
+
+max_picks : Picks max
+max_picks = record {
+  within = λ x y hx hy. omega arith;
+  assoc = λ x y z. omega arith;
+  comm = λ x y. omega arith;
+  add_pick = λ x y z. omega arith;
+  pick_add = λ x y z. omega arith;
+}
+
+pub picked_laws : (highest : Bool) → Laws (price_by (cond highest max min))
+picked_laws true = price_laws max max_picks
+picked_laws false = price_laws min min_picks
 
 pub lowest_laws : Laws lowest
-lowest_laws = record {
-  has_zero = tt;
-  has_one = omega arith;
-  has_join = has_smaller;
-  has_chain = has_added;
-  has_worth = worth_small;
-  join_assoc = smaller_assoc;
-  join_comm = smaller_comm;
-  join_zero = smaller_none;
-  chain_assoc = added_assoc;
-  one_chain = zero_added;
-  chain_one = added_zero;
-  zero_chain = λ a h. refl;
-  chain_zero = added_none;
-  chain_join = added_smaller;
-  join_chain = smaller_added;
-}
-
-has_larger : (a b : Option ℕ) → Price a → Price b → Price (larger a b)
-has_larger None b ha hb = hb
-has_larger (Some x) None ha hb = ha
-has_larger (Some x) (Some y) ha hb = omega arith
-
-larger_assoc : (a b c : Option ℕ) → Price a → Price b → Price c → larger (larger a b) c ≡ larger a (larger b c)
-larger_assoc None b c ha hb hc = refl
-larger_assoc (Some x) None c ha hb hc = refl
-larger_assoc (Some x) (Some y) None ha hb hc = refl
-larger_assoc (Some x) (Some y) (Some z) ha hb hc = ap Some (omega arith)
-
-larger_comm : (a b : Option ℕ) → Price a → Price b → larger a b ≡ larger b a
-larger_comm None None ha hb = refl
-larger_comm None (Some y) ha hb = refl
-larger_comm (Some x) None ha hb = refl
-larger_comm (Some x) (Some y) ha hb = ap Some (omega arith)
-
-larger_none : (a : Option ℕ) → Price a → larger a None ≡ a
-larger_none None h = refl
-larger_none (Some x) h = refl
-
-added_larger : (a b c : Option ℕ) → Price a → Price b → Price c → added a (larger b c) ≡ larger (added a b) (added a c)
-added_larger None b c ha hb hc = refl
-added_larger (Some x) None c ha hb hc = refl
-added_larger (Some x) (Some y) None ha hb hc = refl
-added_larger (Some x) (Some y) (Some z) ha hb hc = ap Some (omega arith)
-
-larger_added : (a b c : Option ℕ) → Price a → Price b → Price c → added (larger a b) c ≡ larger (added a c) (added b c)
-larger_added None b c ha hb hc = refl
-larger_added (Some x) None None ha hb hc = refl
-larger_added (Some x) None (Some z) ha hb hc = refl
-larger_added (Some x) (Some y) None ha hb hc = refl
-larger_added (Some x) (Some y) (Some z) ha hb hc = ap Some (omega arith)
+lowest_laws = picked_laws false
 
 pub highest_laws : Laws highest
-highest_laws = record {
-  has_zero = tt;
-  has_one = omega arith;
-  has_join = has_larger;
-  has_chain = has_added;
-  has_worth = worth_small;
-  join_assoc = larger_assoc;
-  join_comm = larger_comm;
-  join_zero = larger_none;
-  chain_assoc = added_assoc;
-  one_chain = zero_added;
-  chain_one = added_zero;
-  zero_chain = λ a h. refl;
-  chain_zero = added_none;
-  chain_join = added_larger;
-  join_chain = larger_added;
-}
+highest_laws = picked_laws true

@@ -5,6 +5,7 @@ pub mod Grid
 pub mod Held
 pub mod Joins
 pub mod Lawful
+pub mod Left
 pub mod Lists
 pub mod Lives
 pub mod Marking

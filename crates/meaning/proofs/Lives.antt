@@ -8,7 +8,7 @@ use Rattle.meaning.specs.Life.{Life, Ran, Told, ToldAll, act, blank, goal_of, li
 use Rattle.meaning.specs.Measures.{Means}
 use Rattle.meaning.specs.Plan.{Shows, State, does, says, settled, state_after}
 use Rattle.meaning.specs.Problems.{Problem, allowed_sets, fitting, is_empty, needed, problem, short}
-use Rattle.meaning.specs.Register.{Call, Register, after, answers, start}
+use Rattle.meaning.specs.Register.{Call, Register, after, start}
 use Rattle.meaning.specs.View.{life_of}
 use Rattle.meaning.proofs.PlanBranching.{rows_long}
 use Rattle.meaning.proofs.Runs.{agree, last_way, run_shows, settled_shows, stands}

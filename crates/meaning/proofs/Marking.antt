@@ -162,18 +162,24 @@ load_uses admitted ps i d u =
     in_some (λ l. has_at l i d) u.0 (fits admitted ps)
     (in_kept (λ c. admitted (total_of ps c)) u.0 (choices_of ps) (within_listed (sets_of ps) u.0 u.1.0) u.1.1) (eq-eqb (get_or u.0 i 0) d u.1.2)
 
--- the answer of `is_used` where the count stands, from what the two tables hold
-pub used_is : (admitted : ℕ → Bool) (ps : List Part) (w i d : ℕ) (p : Part) (ahead back : List ℕ) (r : Bool) → ((t : ℕ) → admitted t ≡ true → t < w) → AllByRecursion Cheap ps → i < length ps → p ≡ get_or ps i p → d < 64 → has p.standing d ≡ true → Holds (tallies yes_no ps w) ahead → Holds (tallies_back yes_no admitted ps w) back → Decides r ((b : ℕ) × ((b < w) × Meets ahead back (i * w) ((i + 1) * w) w (p.size * d) b)) → r ≡ uses (fits admitted ps) i d
-used_is admitted ps w i d p ahead back r bound a l e low y held held_back dec =
-    let at_ahead : (j b : ℕ) → j < length ps + 1 → b < w → get_or ahead (j * w + b) 0 ≡ tally_at yes_no (take j ps) b = holds_at 0 (length ps + 1) w (λ i b. tally_at yes_no (take i ps) b) ahead held in
-    let at_back : (j b : ℕ) → j < length ps + 1 → b < w → get_or back (j * w + b) 0 ≡ tally_past yes_no admitted (drop j ps) b = holds_at 0 (length ps + 1) w (λ i b. tally_past yes_no admitted (drop i ps) b) back held_back in
+-- a place that is read as 1 is within
+within : (xs : List ℕ) (k : ℕ) → get_or xs k 0 ≡ 1 → k < length xs
+within [] k e = absurd (omega arith)
+within (x ∷ xs) zero e = omega arith
+within (x ∷ xs) (suc k) e = omega (arith, within xs k e)
+
+-- the answer of `is_used` where the count stands, from what row i of the forward table and row i + 1 of the backward table hold
+pub used_is : (admitted : ℕ → Bool) (ps : List Part) (w i d : ℕ) (p : Part) (ahead back : List ℕ) (r : Bool) → ((t : ℕ) → admitted t ≡ true → t < w) → AllByRecursion Cheap ps → i < length ps → p ≡ get_or ps i p → d < 64 → has p.standing d ≡ true
+    → length ahead ≡ w → length back ≡ w → ((b : ℕ) → b < w → get_or ahead b 0 ≡ tally_at yes_no (take i ps) b) → ((b : ℕ) → b < w → get_or back b 0 ≡ tally_past yes_no admitted (drop (i + 1) ps) b)
+    → Decides r ((b : ℕ) × Meets ahead back (p.size * d) b) → r ≡ uses (fits admitted ps) i d
+used_is admitted ps w i d p ahead back r bound a l e low y long long_back at_ahead at_back dec =
     same_test r (uses (fits admitted ps) i d)
     (λ yes'.
     let x = dec.0 yes' in
     let b = x.0 in
     load_uses admitted ps i d (meets_used admitted ps i d p l e low y b
-    (reached (take i ps) (All-take Cheap i ps a) b (sym (at_ahead i b (omega arith) x.1.0) ∙ x.1.1.1))
-    (closed admitted (drop (i + 1) ps) (All-drop Cheap (i + 1) ps a) (b + p.size * d) (sym (at_back (i + 1) (b + p.size * d) (omega arith) x.1.1.0) ∙ x.1.1.2))))
+    (reached (take i ps) (All-take Cheap i ps a) b (sym (at_ahead b (omega (arith, within ahead b x.1.0))) ∙ x.1.0))
+    (closed admitted (drop (i + 1) ps) (All-drop Cheap (i + 1) ps a) (b + p.size * d) (sym (at_back (b + p.size * d) (omega (arith, within back (b + p.size * d) x.1.1))) ∙ x.1.1))))
     (λ u.
     let x = used_meets admitted ps i d p l e (uses_load admitted ps i d u) in
     let b = x.1.0 in
@@ -182,12 +188,8 @@ used_is admitted ps w i d p ahead back r bound a l e low y held held_back dec =
     dec.1 (
       b,
       (
-        omega arith,
-        (
-          omega arith,
-          at_ahead i b (omega arith) (omega arith) ∙ reach (take i ps) (All-take Cheap i ps a) b x.1.1.0,
-          at_back (i + 1) (b + p.size * d) (omega arith) (omega arith) ∙ close admitted (drop (i + 1) ps) (All-drop Cheap (i + 1) ps a) (b + p.size * d) k,
-        ),
+        at_ahead b (omega arith) ∙ reach (take i ps) (All-take Cheap i ps a) b x.1.1.0,
+        at_back (b + p.size * d) (omega arith) ∙ close admitted (drop (i + 1) ps) (All-drop Cheap (i + 1) ps a) (b + p.size * d) k,
       ),
     ))
 

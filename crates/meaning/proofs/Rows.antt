@@ -1,7 +1,7 @@
 -- A row that is filled from left to right, and a cell that is joined count by count.
-use Rattle.std.proofs.Common.{◌≡◌, ℕ, zero, suc, ◌+◌, ◌-◌, ◌*◌, ◌<◌, ◌≤◌, Bool, true, false, cond, ltb, leb, ◌≢◌, ◌⊎◌, List, [], ◌∷◌, ◌++◌, map, length, get_or, take, drop, set, filter, sym, refl, ap, ◌∙◌, inl, inr, zero-add, arith}
+use Rattle.std.proofs.Common.{◌≡◌, ℕ, zero, suc, ◌+◌, ◌-◌, ◌*◌, ◌<◌, ◌≤◌, Bool, true, false, cond, ltb, leb, ◌⊎◌, List, [], ◌∷◌, ◌++◌, map, length, get_or, take, drop, filter, sym, refl, ap, ◌∙◌, inl, inr, zero-add, arith}
 use Rattle.std.specs.List.{range_with_len}
-use Rattle.std.proofs.lemmas.List.{get_or-set_same, get_or-set_other, map-id, map-append, append-nil, drop_more, drop_all}
+use Rattle.std.proofs.lemmas.List.{map-id, map-append, append-nil, drop_more, drop_all}
 use Rattle.std.proofs.lemmas.Bool.{cases_eq, cases_Bool, ltb-true}
 use Rattle.std.proofs.lemmas.List.Elements.{filter-append}
 use Rattle.std.proofs.lemmas.List.FromFn.{map-range_with_len_more}
@@ -17,20 +17,6 @@ use Rattle.meaning.proofs.Same.{map_same}
 
 pub cases_le : (k b : ℕ) → k ≤ b → (k ≡ b) ⊎ (k < b)
 cases_le k b h = elim (cases_eq k b) [ inl e ↦ inl e | inr ne ↦ inr (omega arith) ]
-
--- one cell more of a row that begins at s
-pub row_more : {V : Type 0} (z : V) (f : ℕ → V) (xs : List V) (s b : ℕ) (v : V) → s + b < length xs → ((k : ℕ) → k < b → get_or xs (s + k) z ≡ f k) → v ≡ f b → (k : ℕ) → k < b + 1 → get_or (set xs (s + b) v) (s + k) z ≡ f k
-row_more z f xs s b v within old new k below =
-    elim (cases_le k b (omega arith)) [
-      | inl e ↦ ap (λ j. get_or (set xs (s + b) v) (s + j) z) e ∙ get_or-set_same xs (s + b) v z within ∙ new ∙ ap f (sym e)
-      | inr less ↦
-          let other : s + k ≢ s + b = λ e. omega arith in
-          get_or-set_other xs (s + b) (s + k) v z other ∙ old k less
-    ]
-
--- a cell that was not written
-pub kept_more : {V : Type 0} (z : V) (w : V) (xs : List V) (i : ℕ) (v : V) (k : ℕ) → (k ≢ i) → get_or xs k z ≡ w → get_or (set xs i v) k z ≡ w
-kept_more z w xs i v k ne old = get_or-set_other xs i k v z ne ∙ old
 
 counting_more : (n : ℕ) → range_with_len 0 (n + 1) ≡ range_with_len 0 n ++ n ∷ []
 counting_more n =

@@ -1,5 +1,5 @@
 -- Marks in the subject's own words.
-use Rattle.std.specs.Prelude.{◌≡◌, ℕ, ◌+◌, ◌<◌, ◌≤◌, Bool, true, List, slice_index}
+use Rattle.std.specs.Prelude.{◌≡◌, ℕ, ◌+◌, ◌≤◌, Bool, true, List, slice_index}
 use Rattle.model.specs.Loads.{total_of, Within}
 use Rattle.model.specs.Parts.{Part, sets_of}
 
@@ -15,9 +15,9 @@ Reaches ps b = (c : List ℕ) × (Stands ps c × (total_of ps c ≡ b))
 abbrev pub Closes : (ℕ → Bool) → List Part → ℕ → Type 0
 Closes admitted ps b = (c : List ℕ) × (Stands ps c × (admitted (b + total_of ps c) ≡ true))
 
--- a forward mark at b, in the row that begins at `from`, meets a backward mark at b + blocks, in the row that begins at `to`
-abbrev pub Meets : List ℕ → List ℕ → ℕ → ℕ → ℕ → ℕ → ℕ → Type 0
-Meets ahead back from to width blocks b = (b + blocks < width) × (slice_index ahead (from + b) ≡ 1) × (slice_index back (to + (b + blocks)) ≡ 1)
+-- in a row of forward marks and the row of backward marks after it, a mark at b meets a mark at b + blocks
+abbrev pub Meets : List ℕ → List ℕ → ℕ → ℕ → Type 0
+Meets ahead back blocks b = (slice_index ahead b ≡ 1) × (slice_index back (b + blocks) ≡ 1)
 
 -- prices as kinds have them
 abbrev pub Cheap : Part → Type 0

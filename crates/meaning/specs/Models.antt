@@ -21,27 +21,29 @@ loads = record {
   worth = λ price count. 1;
 }
 
+-- a price is none, or a number that is not cut off
 abbrev pub Price : Option ℕ → Type 0
 Price None = Unit {0}
 Price (Some v) = v ≤ 4294967295
 
-abbrev pub smaller : Option ℕ → Option ℕ → Option ℕ
-smaller None b = b
-smaller (Some x) None = Some x
-smaller (Some x) (Some y) = Some (min x y)
+-- of two prices the one that pick takes; where one is none, the other
+abbrev pub taken : (ℕ → ℕ → ℕ) → Option ℕ → Option ℕ → Option ℕ
+taken pick None b = b
+taken pick (Some x) None = Some x
+taken pick (Some x) (Some y) = Some (pick x y)
 
-abbrev pub larger : Option ℕ → Option ℕ → Option ℕ
-larger None b = b
-larger (Some x) None = Some x
-larger (Some x) (Some y) = Some (max x y)
-
+-- the sum, cut off; none where either is none
 abbrev pub added : Option ℕ → Option ℕ → Option ℕ
 added None b = None
 added (Some x) None = None
 added (Some x) (Some y) = Some (cut (x + y))
 
+-- the price of a load that pick takes
+abbrev pub price_by : (ℕ → ℕ → ℕ) → Means (Option ℕ)
+price_by pick = record { has = Price; zero = None; one = Some 0; join = taken pick; chain = added; worth = λ price count. Some (price * count) }
+
 abbrev pub lowest : Means (Option ℕ)
-lowest = record { has = Price; zero = None; one = Some 0; join = smaller; chain = added; worth = λ price count. Some (price * count) }
+lowest = price_by min
 
 abbrev pub highest : Means (Option ℕ)
-highest = record { has = Price; zero = None; one = Some 0; join = larger; chain = added; worth = λ price count. Some (price * count) }
+highest = price_by max

@@ -1,13 +1,13 @@
 -- The choices from sets: those that pass a test are listed each once and in order.
 use Rattle.std.proofs.Common.{◌≡◌, ℕ, zero, suc, ◌+◌, ◌<◌, ◌≤◌, Bool, true, false, cond, List, [], ◌∷◌, ◌++◌, map, length, get_or, filter, sym, refl, inl, inr, arith}
 use Rattle.std.specs.List.{range_with_len, flat_map, AllByRecursion}
-use Rattle.std.proofs.ByRecursion.{all_kept_by, All-map, All-append, All-weaker, kept_by_passes}
+use Rattle.std.proofs.ByRecursion.{all_kept_by, All-get_or, All-map, All-append, All-weaker, kept_by_passes}
 use Rattle.std.proofs.lemmas.Bool.{cases_order}
 use Rattle.model.specs.Sets.{has, counts, members}
 use Rattle.model.specs.Loads.{choices, passing, Within}
 use Rattle.model.specs.Order.{before, Precedes}
 use Rattle.model.specs.Claims.{Lists}
-use Rattle.model.proofs.Lists.{In, in_kept, in_map, in_joined, in_counting, all_both, all_at, place_of}
+use Rattle.model.proofs.Lists.{In, in_kept, in_map, in_joined, in_counting, all_both, place_of}
 use Rattle.model.proofs.Order.{same_first, less_first, order_told, never_itself}
 
 -- each load of the list comes before all the later ones
@@ -115,7 +115,7 @@ within_listed (s ∷ sets) (d ∷ load) h =
 rises_at_lem : (ls : List (List ℕ)) → Rising ls → (j k : ℕ) → j < k → k < length ls → before (get_or ls j []) (get_or ls k []) ≡ true
 rises_at_lem [] r j k h l = absurd (omega arith)
 rises_at_lem (x ∷ ls) r j zero h l = absurd (omega arith)
-rises_at_lem (x ∷ ls) r zero (suc k) h l = all_at (λ m. before x m ≡ true) ls r.0 k [] (omega arith)
+rises_at_lem (x ∷ ls) r zero (suc k) h l = All-get_or (λ m. before x m ≡ true) ls k [] (omega arith) r.0
 rises_at_lem (x ∷ ls) r (suc j) (suc k) h l = rises_at_lem ls r.1 j k (omega arith) (omega arith)
 
 pub lists : (t : List ℕ → Bool) (sets : List ℕ) → Lists (λ load. Within sets load × (t load ≡ true)) (passing t sets)
@@ -127,7 +127,7 @@ lists t sets =
     let order : (j k : ℕ) → j < k → k < length loads → Precedes (get_or loads j []) (get_or loads k []) =
     λ j k h l. (order_told (get_or loads j []) (get_or loads k [])).0 (rises_at_lem loads up j k h l) in
     record {
-      only = λ k h. all_at (λ load. Within sets load × (t load ≡ true)) loads fit k [] h;
+      only = λ k h. All-get_or (λ load. Within sets load × (t load ≡ true)) loads k [] h fit;
       all = λ load p. place_of load loads [] (in_kept t load (choices sets) (within_listed sets load p.0) p.1);
       once = λ j k h l e. elim (cases_order j k) [
         | inl same ↦ same

@@ -48,11 +48,6 @@ pub all_both : {X : Type 0} (P Q : X → Type 0) (xs : List X) → AllByRecursio
 all_both P Q [] a b = tt
 all_both P Q (x ∷ xs) a b = ((a.0, b.0), all_both P Q xs a.1 b.1)
 
-pub all_at : {X : Type 0} (P : X → Type 0) (xs : List X) → AllByRecursion P xs → (k : ℕ) (d : X) → k < length xs → P (get_or xs k d)
-all_at P [] a k d h = absurd (omega arith)
-all_at P (x ∷ xs) a zero d h = a.0
-all_at P (x ∷ xs) a (suc k) d h = all_at P xs a.1 k d (omega arith)
-
 -- an element has a place
 pub place_of : {X : Type 0} (x : X) (xs : List X) (d : X) → In x xs → (k : ℕ) × (k < length xs) × (get_or xs k d ≡ x)
 place_of x [] d i = absurd i

@@ -41,3 +41,8 @@ GivenBack given (Err e) = e.given ≡ given
 abbrev pub option_as : {X V : Type 0} → (X → V) → Option X → Option V
 option_as f None = None
 option_as f (Some x) = Some (f x)
+
+-- the number of the refusal, where there is one
+abbrev pub refusal_in : {X : Type 0} → Result X Refusal → Option ℕ
+refusal_in (Ok x) = None
+refusal_in (Err e) = Some (number_of e)

@@ -1,12 +1,13 @@
 -- A case: its kinds, numbered from 1.
-use Rattle.std.specs.Prelude.{ℕ, ◌+◌, cond, ◌||◌, List, [], ◌∷◌, ◌++◌, map, length, take, Some, None, Option, ◌==◌, nat_le, nat_lt}
+use Rattle.std.specs.Prelude.{ℕ, ◌+◌, cond, ◌||◌, List, [], ◌∷◌, ◌++◌, map, length, Some, None, Option, ◌==◌, nat_le, nat_lt}
 use Rattle.model.specs.declared.case.Case.{Case}
 use Rattle.model.specs.Answers.{Answer, accepted, refused}
+use Rattle.fixed_list.specs.FixedLists.{in_use}
 use Rattle.model.specs.Parts.{Kind, Part, part}
 
 -- the kinds of a case, in order
 abbrev pub kinds_in : Case → List Kind
-kinds_in c = take c.many c.kinds
+kinds_in c = in_use c.kinds
 
 -- each kind with its allowed counts
 abbrev pub allowed_parts : List Kind → List Part

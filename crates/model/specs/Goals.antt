@@ -1,5 +1,6 @@
 -- What goals mean.
-use Rattle.std.specs.Prelude.{◌≡◌, ℕ, ◌-◌, ◌%◌, ◌≤◌, Bool, true, false, cond, not, ◌&&◌, ◌||◌, List, [], ◌∷◌, length, Some, None, Option, ◌==◌, nat_le, nat_lt, slice_index}
+use Rattle.std.specs.Prelude.{◌≡◌, ℕ, ◌-◌, ◌%◌, ◌≤◌, Bool, true, cond, not, ◌&&◌, ◌||◌, List, [], ◌∷◌, length, Some, None, Option, ◌==◌, nat_le, nat_lt, slice_index}
+use Rattle.std.specs.List.{list_any}
 use Rattle.model.specs.Answers.{Outcome, accepted, refused}
 
 -- A goal means a set of totals, given by its test, and has a top.
@@ -17,8 +18,7 @@ between low high = record { admits = λ b. nat_le low b && nat_le b high; top = 
 
 -- b is one of the totals
 abbrev pub is_in : List ℕ → ℕ → Bool
-is_in [] b = false
-is_in (t ∷ ts) b = t == b || is_in ts b
+is_in ts b = list_any (λ t. t == b) ts
 
 -- the last total; 0 where there is none
 abbrev pub last_of : List ℕ → ℕ
@@ -27,10 +27,6 @@ last_of ts = slice_index ts (length ts - 1)
 -- the last total, if there is one
 abbrev pub last_in : List ℕ → Option ℕ
 last_in ts = cond (length ts == 0) None (Some (last_of ts))
-
--- there is a last total, and it is not over 4,095
-abbrev pub ends_low : List ℕ → Bool
-ends_low ts = not (length ts == 0) && nat_le (last_of ts) 4095
 
 -- each total is below the next
 abbrev pub rising : List ℕ → Bool

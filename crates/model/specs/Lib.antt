@@ -6,5 +6,6 @@ pub mod Loads
 pub mod Order
 pub mod Goals
 pub mod Cases
+pub mod ListGoals
 pub mod Claims
 pub mod Rises

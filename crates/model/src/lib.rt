@@ -7,6 +7,7 @@ pub mod case;
 pub mod goal;
 pub mod kind;
 pub mod limits;
+pub mod parts;
 pub mod refusal;
 pub mod sets;
 

@@ -2,11 +2,11 @@
 ghost use Rattle.std.specs.Prelude.{◌≡◌};
 ghost use Rattle.model.specs.Refusals.{number_of};
 
-// One variant for each of the planner's refusal numbers, 1 to 15 in this order.
+// One variant for each of the planner's refusal numbers, which are 1 to 15 in this order.
 #[derive(Clone, Copy, PartialEq, Eq, Debug)]
 pub enum Refusal {
     // The case has 32 kinds already.
-    CaseFull,
+    CaseFull = 1,
     // A size is over 4,095 or a price over 1,000.
     OverLimit,
     // A kind would have no allowed count.
@@ -42,23 +42,7 @@ impl Refusal {
     pub fn number(self) -> u8
         ensures { result ≡ number_of self }
     {
-        match self {
-            Refusal::CaseFull => 1,
-            Refusal::OverLimit => 2,
-            Refusal::EmptySet => 3,
-            Refusal::BadTotals => 4,
-            Refusal::BadStride => 5,
-            Refusal::NoKind => 6,
-            Refusal::TooShort => 7,
-            Refusal::NoLoad => 8,
-            Refusal::WrongStage => 9,
-            Refusal::OutOfRange => 10,
-            Refusal::NotStanding => 11,
-            Refusal::BranchesFull => 12,
-            Refusal::NotLatest => 13,
-            Refusal::LoadLength => 14,
-            Refusal::EndOfLoads => 15,
-        }
+        self as u8
     }
 }
 

@@ -1,5 +1,5 @@
 // Sets of counts as 64-bit numbers: bit d says whether count d is in the set.
-ghost use Rattle.std.specs.Prelude.{◌≡◌, ◌/◌, ◌%◌, ◌<◌, ◌≤◌, count_ones};
+ghost use Rattle.std.specs.Prelude.{◌≡◌, ◌<◌, ◌≤◌, count_ones, sum_by};
 ghost use Rattle.model.specs.Sets.{has, held};
 
 use crate::limits::COUNTS;
@@ -23,25 +23,18 @@ pub fn contains(set: u64, count: u64) -> bool
 }
 
 // The number of ones in eight bits.
-fn ones_in(byte: usize) -> u8
-    requires { byte < 256 }
+fn ones_in(byte: u8) -> u8
     ensures { result ≡ count_ones byte }
 {
-    ONES[byte]
+    ONES[usize::from(byte)]
 }
 
-// The number of ones in the lowest eight bits.
-fn low_ones(set: u64) -> u8
-    ensures { result ≡ count_ones (set % 256) }
+// The number of ones in some bytes.
+fn ones_among(bytes: &[u8]) -> u32
+    requires { sum_by count_ones bytes.now ≤ 64 }
+    ensures { result ≡ sum_by count_ones bytes.now }
 {
-    ones_in((set % 256) as usize)
-}
-
-// What stands above the lowest eight bits.
-fn above_low(set: u64) -> u64
-    ensures { result ≡ set / 256 }
-{
-    set / 256
+    bytes.iter().map(|byte| u32::from(ones_in(*byte))).sum()
 }
 
 // How many counts the set holds, eight bits at a time.
@@ -49,11 +42,5 @@ pub fn how_many(set: u64) -> u32
     ensures members { result ≡ held set }
     ensures few { result ≤ 64 }
 {
-    let mut rest = set;
-    let mut sum: u32 = 0;
-    for _i in 0..8u32 {
-        sum += u32::from(low_ones(rest));
-        rest = above_low(rest);
-    }
-    sum
+    ones_among(&set.to_le_bytes())
 }

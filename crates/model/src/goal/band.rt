@@ -54,6 +54,6 @@ impl Goal for Band {
     }
 
     fn admits(&self, total: u64) -> bool {
-        total >= self.low && total <= self.high
+        (self.low..=self.high).contains(&total)
     }
 }

@@ -1,11 +1,7 @@
-use Rattle.std.proofs.Common.{◌/◌, ◌^◌, sym, ◌∙◌, arith, rules}
-use Rattle.std.proofs.lemmas.Nat.{and_mask}
+use Rattle.std.proofs.Common.{sym, ◌∙◌, arith}
 use Rattle.std.proofs.lemmas.Bool.{le-ltb}
 use Rattle.model.proofs.Bits.{has_past}
 use Rattle.model.proofs.sets.contains.Goals as goal
-
-pub returns-then-count-lt-COUNTS : goal.returns-then-count-lt-COUNTS
-returns-then-count-lt-COUNTS c = let e = and_mask (c.args.set / 2 ^ c.args.count) 1 in search rules
 
 -- a set has no bit past the 64th
 pub returns-else-count-lt-COUNTS : goal.returns-else-count-lt-COUNTS
