@@ -5,38 +5,27 @@ ghost use Rattle.std.specs.Prelude.{◌≡◌, Some, None};
 
 use model::refusal::Refusal;
 
-// A call of a settled plan. `forward` and `backward` are how many cells of each lent table the call gets: all, where there are fewer.
+// How many cells of each lent table a call gets: all, where there are fewer.
 #[derive(Clone, Copy)]
-pub enum Call {
-    RuleOut {
-        kind: u64,
-        count: u64,
-        forward: usize,
-        backward: usize,
-    },
-    Branch,
-    Keep {
-        number: u64,
-    },
-    Withdraw {
-        number: u64,
-        forward: usize,
-        backward: usize,
-    },
+pub struct Cells {
+    pub forward: usize,
+    pub backward: usize,
 }
 
-// What a call answered.
+// A call of a settled plan.
 #[derive(Clone, Copy)]
-pub enum Reply {
-    Accepted(u32),
-    Refused(Refusal),
+pub enum Call {
+    RuleOut { kind: u64, count: u64, cells: Cells },
+    Branch,
+    Keep { number: u64 },
+    Withdraw { number: u64, cells: Cells },
 }
 
 // A call, with its answer once it was made.
 #[derive(Clone, Copy)]
 pub struct Entry {
     call: Call,
-    answer: Option<Reply>,
+    answer: Option<Result<u32, Refusal>>,
 }
 
 impl Entry {
@@ -56,20 +45,20 @@ impl Entry {
     }
 
     // Its answer, if it was made.
-    pub fn answer(&self) -> Option<Reply>
+    pub fn answer(&self) -> Option<Result<u32, Refusal>>
         ensures { result ≡ self.now.answer }
     {
         self.answer
     }
 
     // The entry with the answer of its call.
-    pub fn answered(self, reply: Reply) -> Entry
+    pub fn answered(self, answer: Result<u32, Refusal>) -> Entry
         ensures call { result.call ≡ self.call }
-        ensures answer { result.answer ≡ Some reply }
+        ensures answer { result.answer ≡ Some answer }
     {
         Entry {
             call: self.call,
-            answer: Some(reply),
+            answer: Some(answer),
         }
     }
 }

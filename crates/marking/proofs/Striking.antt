@@ -1,5 +1,5 @@
 -- Sets found by a trial, and a trial with a count struck.
-use Rattle.std.proofs.Common.{◌≡◌, ℕ, zero, suc, ◌<◌, Bool, true, not, ◌&&◌, eqb, List, [], ◌∷◌, length, get_or, take, set, Some, None, Option, sym, refl, ap, ◌∙◌, inl, inr, arith, length-set, get_or-set_other, get_or-set_same}
+use Rattle.std.proofs.Common.{◌≡◌, ℕ, ◌<◌, Bool, true, not, ◌&&◌, eqb, List, length, get_or, take, Some, None, Option, sym, ap, ◌∙◌, inl, inr, arith, length-set, get_or-set_other, get_or-set_same}
 use Rattle.std.proofs.lemmas.Bool.{cases_eq}
 use Rattle.std.proofs.lemmas.List.{get_or-take}
 use Rattle.model.specs.declared.kind.Kind.{Kind}
@@ -26,16 +26,6 @@ sets_some admits ks ss next e found j h =
     let same : get_or next j 0 ≡ get_or (support (length ks) (fits admits (parts ks ss))) j 0 = sym (get_or-take (length ks) next j 0 h) ∙ ap (λ xs. get_or xs j 0) found.1 in
     omega (arith, support_some admits (parts ks ss) (length ks) (length_parts ks ss e) found.0 j h)
 
-take_set : {X : Type 0} (n : ℕ) (xs : List X) (j : ℕ) (v : X) → take n (set xs j v) ≡ set (take n xs) j v
-take_set zero xs j v = refl
-take_set (suc n) [] j v = refl
-take_set (suc n) (x ∷ xs) zero v = refl
-take_set (suc n) (x ∷ xs) (suc j) v = ap (λ ys. x ∷ ys) (take_set n xs j v)
-
-pub take_strike : (n : ℕ) (xs : List ℕ) (j d : ℕ) → j < n → take n (strike xs j d) ≡ strike (take n xs) j d
-take_strike n xs j d h =
-    take_set n xs j (struck (get_or xs j 0) d) ∙ ap (λ (v : ℕ). set (take n xs) j (struck v d)) (sym (get_or-take n xs j 0 h))
-
 -- what is struck lies in what there was
 strike_lies : (xs : List ℕ) (j d : ℕ) → j < length xs → (i e : ℕ) → e < 64 → has (get_or (strike xs j d) i 0) e ≡ true → has (get_or xs i 0) e ≡ true
 strike_lies xs j d h i e l y =
@@ -48,31 +38,27 @@ strike_lies xs j d h i e l y =
     ]
 
 -- and so does what some load of the struck sets uses
-pub next_lies : (admitted : ℕ → Bool) (ks : List Kind) (n : ℕ) (standing next : List ℕ) (j d : ℕ) → length ks ≡ n → length (take n standing) ≡ n → j < n
-    → take n next ≡ support n (fits admitted (parts ks (strike (take n standing) j d))) → Lies n next standing
-next_lies admitted ks n standing next j d long same h are i e l m y =
-    let ss = strike (take n standing) j d in
-    let same' : length ss ≡ length ks = length-set (take n standing) j (struck (get_or (take n standing) j 0) d) ∙ same ∙ sym long in
-    let used : uses (fits admitted (parts ks ss)) i e ≡ true =
-    sym (support_has n (fits admitted (parts ks ss)) i e l m) ∙ ap (λ xs. has (get_or xs i 0) e) (sym are) ∙ ap (λ s. has s e) (get_or-take n next i 0 l) ∙ y in
-    let old = strike_lies (take n standing) j d (omega arith) i e m (used_stands admitted ks ss same' i e (omega arith) used) in
-    ap (λ s. has s e) (sym (get_or-take n standing i 0 l)) ∙ old
+next_lies : (admitted : ℕ → Bool) (ks : List Kind) (ss next : List ℕ) (j d : ℕ) → length ss ≡ length ks → j < length ks
+    → take (length ks) next ≡ support (length ks) (fits admitted (parts ks (strike ss j d))) → Lies (length ks) next ss
+next_lies admitted ks ss next j d same h are i e l m y =
+    let n = length ks in
+    let loads = fits admitted (parts ks (strike ss j d)) in
+    let same' : length (strike ss j d) ≡ n = length-set ss j (struck (get_or ss j 0) d) ∙ same in
+    let used : uses loads i e ≡ true =
+    sym (support_has n loads i e l m) ∙ ap (λ xs. has (get_or xs i 0) e) (sym are) ∙ ap (λ s. has s e) (get_or-take n next i 0 l) ∙ y in
+    strike_lies ss j d (omega arith) i e m (used_stands admitted ks (strike ss j d) same' i e l used)
 
 -- the fitting loads of the struck sets are those without the count
-pub rest_is : (t : Target) (ks : List Kind) (standing trial : List ℕ) (j d : ℕ) → length (take (length ks) standing) ≡ length ks → j < length ks → trial ≡ strike standing j d
-    → fits t.admits (parts ks (take (length ks) trial)) ≡ without j d (fits t.admits (parts ks (take (length ks) standing)))
-rest_is t ks standing trial j d same h e =
-    let n = length ks in
-    ap (λ (xs : List ℕ). fits t.admits (parts ks (take n xs))) e ∙ ap (λ ss. fits t.admits (parts ks ss)) (take_strike n standing j d h)
-    ∙ sym (strike_tells_lem (problem t ks) (take n standing) j d same (omega arith))
+pub rest_is : (t : Target) (ks : List Kind) (ss tried : List ℕ) (j d : ℕ) → length ss ≡ length ks → j < length ks → tried ≡ strike ss j d
+    → fits t.admits (parts ks tried) ≡ without j d (fits t.admits (parts ks ss))
+rest_is t ks ss tried j d same h e =
+    ap (λ (xs : List ℕ). fits t.admits (parts ks xs)) e ∙ sym (strike_tells_lem (problem t ks) ss j d same (omega arith))
 
 -- the sets that a trial without the count found
-pub smaller : (t : Target) (ks : List Kind) (standing trial : List ℕ) (j d : ℕ) (r : Option (List ℕ)) → length (take (length ks) standing) ≡ length ks → length (take (length ks) trial) ≡ length ks → j < length ks → trial ≡ strike standing j d
-    → Pruned (fits t.admits (parts ks (take (length ks) trial))) (length ks) r → Smaller (length ks) standing r
-smaller t ks standing trial j d None same long h e found = tt
-smaller t ks standing trial j d (Some next) same long h e found =
-    let n = length ks in (
-      next_lies t.admits ks n standing next j d refl same h
-          (found.1 ∙ ap (λ ss. support n (fits t.admits (parts ks ss))) (ap (take n) e ∙ take_strike n standing j d h)),
-      sets_some t.admits ks (take n trial) next long found,
-    )
+pub smaller : (t : Target) (ks : List Kind) (ss tried : List ℕ) (j d : ℕ) (r : Option (List ℕ)) → length ss ≡ length ks → length tried ≡ length ks → j < length ks → tried ≡ strike ss j d
+    → Pruned (fits t.admits (parts ks tried)) (length ks) r → Smaller (length ks) ss r
+smaller t ks ss tried j d None same long h e found = tt
+smaller t ks ss tried j d (Some next) same long h e found = (
+  next_lies t.admits ks ss next j d same h (found.1 ∙ ap (λ xs. support (length ks) (fits t.admits (parts ks xs))) e),
+  sets_some t.admits ks tried next long found,
+)

@@ -1,3 +1,2 @@
 pub mod Lent
-pub mod Room
 pub mod Striking

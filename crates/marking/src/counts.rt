@@ -11,11 +11,7 @@ pub fn held_in_all(sets: &[u64]) -> u32
     requires { length sets.now ≤ 32 }
     ensures { result ≡ held_in_all sets.now }
 {
-    let mut all = 0;
-    for i in 0..sets.len() {
-        all += how_many(sets[i]);
-    }
-    all
+    sets.iter().map(|set| how_many(*set)).sum()
 }
 
 // The allowed sets of the kinds.
@@ -23,9 +19,9 @@ pub fn allowed_sets(kinds: &[Kind]) -> [u64; 32]
     requires { length kinds.now ≤ 32 }
     ensures { take (length kinds.now) result ≡ map (λ k. k.allowed) kinds.now }
 {
-    let mut sets = [0u64; 32];
-    for i in 0..kinds.len() {
-        sets[i] = kinds[i].allowed();
+    let mut sets = [0; 32];
+    for (i, kind) in kinds.iter().enumerate() {
+        sets[i] = kind.allowed();
     }
     sets
 }
@@ -34,7 +30,7 @@ pub fn allowed_sets(kinds: &[Kind]) -> [u64; 32]
 pub fn in_range(kind: u64, count: u64, many: usize) -> bool
     ensures { result ≡ (nat_le 1 kind && (nat_le kind many && nat_le count 63)) }
 {
-    kind >= 1 && kind <= many as u64 && count <= 63
+    is_kind(kind, many) && count <= 63
 }
 
 // Whether there is a kind of that number among so many.
@@ -54,13 +50,15 @@ fn without(set: u64, count: u64) -> u64
 }
 
 // The sets, with a count that stands struck.
-pub fn strike_count(sets: &[u64; 32], at: usize, count: u64) -> [u64; 32]
-    requires kind { at < 32 }
+pub fn strike_count(sets: &[u64], at: usize, count: u64) -> [u64; 32]
+    requires few { length sets.now ≤ 32 }
+    requires kind { at < length sets.now }
     requires small { count < 64 }
     requires stands { has (slice_index sets.now at) count ≡ true }
-    ensures { result ≡ strike sets.now at count }
+    ensures { take (length sets.now) result ≡ strike sets.now at count }
 {
-    let mut left = *sets;
+    let mut left = [0; 32];
+    left[..sets.len()].copy_from_slice(sets);
     left[at] = without(sets[at], count);
     left
 }

@@ -1,4 +1,4 @@
-// What the calls of a plan are made of: sets of counts, the sets that branches note, and the lent tables with the passes that fill them.
+// What the calls of a plan are made of: sets of counts, the numbers of branches, and the lent tables with the passes that fill them.
 #![tactic(auto)]
 
 pub mod branches;

@@ -1,15 +1,15 @@
 -- Entries whose calls are made one by one.
-use Rattle.std.proofs.Common.{◌≡◌, ℕ, zero, suc, ◌+◌, ◌<◌, List, [], ◌∷◌, ◌++◌, map, length, get_or, take, set, Some, None, Option, sym, ap, ◌∙◌, ap₂, arith}
+use Rattle.std.proofs.Common.{◌≡◌, ℕ, zero, suc, ◌+◌, ◌<◌, List, [], ◌∷◌, ◌++◌, map, length, get_or, take, set, Some, Option, Result, sym, ap, ◌∙◌, ap₂, arith}
 use lib.ListN.{length-map}
 use Rattle.std.proofs.lemmas.List.{get_or-map, map-append, map_more, take_more_set}
-use Rattle.model.specs.Answers.{Answer}
+use Rattle.model.specs.Answers.{Answer, answer_of, option_as}
 use Rattle.meaning.specs.Life.{Called, Life, act, life_after, replies}
 use Rattle.meaning.specs.Register.{Call as Asked}
 use Rattle.meaning.proofs.Lives.{life_more, replies_more}
-use Rattle.plan.specs.Entries.{answer_in, answers_in, asked, calls_in, calls_of, reply_of}
+use Rattle.plan.specs.Entries.{answer_in, answers_in, asked, calls_in, calls_of}
 use Rattle.entries.specs.declared.Call.{Call}
 use Rattle.entries.specs.declared.Entry.{Entry}
-use Rattle.entries.specs.declared.Reply.{Reply}
+use Rattle.model.specs.declared.refusal.Refusal.{Refusal}
 
 -- lists with equal calls have equal calls at each place
 call_at : (now old : List Entry) (i : ℕ) (d : Entry) → calls_of now ≡ calls_of old → i < length old → (get_or now i d).call ≡ (get_or old i d).call
@@ -23,12 +23,9 @@ calls_set [] i e d h same = absurd (omega arith)
 calls_set (x ∷ xs) zero e d h same = ap (λ c. c ∷ calls_of xs) same
 calls_set (x ∷ xs) (suc i) e d h same = ap (λ cs. x.call ∷ cs) (calls_set xs i e d (omega arith) same)
 
-answer_is : (e : Entry) (r : Reply) → e.answer ≡ Some r → answer_in e ≡ Some (reply_of r)
-answer_is e r is = ap (λ (o : Option Reply). elim o [ None ↦ None | Some x ↦ Some (reply_of x) ]) is
-
-module _ (before : Life) (f b : ℕ) (old now : List Entry) (i : ℕ) (d : Entry) (made : Call) (here last : Life) (said : Reply)
+module _ (before : Life) (f b : ℕ) (old now : List Entry) (i : ℕ) (d : Entry) (made : Call) (here last : Life) (said : Result ℕ Refusal)
     (low : i < length old) (at : here ≡ life_after before (calls_in f b (take i old))) (same : calls_of now ≡ calls_of old) (is : made ≡ (get_or now i d).call)
-    (called : Called here (asked f b made) last (reply_of said)) where
+    (called : Called here (asked f b made) last (answer_of said)) where
   abbrev q : Entry → Asked
   q e = asked f b e.call
 
@@ -47,6 +44,6 @@ module _ (before : Life) (f b : ℕ) (old now : List Entry) (i : ℕ) (d : Entry
       let x = q (get_or old i d) in
       ap answers_in (take_more_set now i e room) ∙ map-append answer_in (take i now) (e ∷ [])
       ∙ ap₂ (λ (ys : List (Option Answer)) (o : Option Answer). ys ++ o ∷ []) so_far
-      (answer_is e said got ∙ ap Some (called.answer ∙ ap₂ (λ (z : Life) (y : Asked). (act z y).1) at its))
+      (ap (option_as answer_of) got ∙ ap Some (called.answer ∙ ap₂ (λ (z : Life) (y : Asked). (act z y).1) at its))
       ∙ sym (ap (λ zs. map Some (replies before zs)) (map_more q old i d low) ∙ ap (map Some) (replies_more before xs x)
       ∙ map-append Some (replies before xs) ((act (life_after before xs) x).1 ∷ []))

@@ -1,6 +1,6 @@
 -- Calls as values, and their answers.
-use Rattle.std.specs.Prelude.{◌≡◌, ℕ, min, List, map, Some, None, Ok, Err, Option, Result}
-use Rattle.model.specs.Answers.{Answer, accepted, outcome_as, refused}
+use Rattle.std.specs.Prelude.{◌≡◌, ℕ, min, List, map, Ok, Err, Option, Result}
+use Rattle.model.specs.Answers.{Answer, answer_of, option_as, outcome_as}
 use Rattle.model.specs.Refusals.{number_of}
 use Rattle.model.specs.declared.refusal.Refusal.{Refusal}
 use Rattle.meaning.specs.History.{Ending, lived, unsettled}
@@ -8,25 +8,18 @@ use Rattle.meaning.specs.Register.{branch, keep, rule_out, withdraw, Call as Ask
 use Rattle.entries.specs.declared.Call.{Call}
 use Rattle.entries.specs.declared.Call.TheVariants.{RuleOut, Branch, Keep, Withdraw}
 use Rattle.entries.specs.declared.Entry.{Entry}
-use Rattle.entries.specs.declared.Reply.{Reply}
-use Rattle.entries.specs.declared.Reply.TheVariants.{Accepted, Refused}
 use Rattle.plan.specs.declared.lived.Lived.{Lived}
 
 -- the call, with tables as long as it gets of those that are lent
 abbrev pub asked : ℕ → ℕ → Call → Asked
-asked forward backward (RuleOut i d f b) = rule_out i d (min f forward) (min b backward)
+asked forward backward (RuleOut i d cells) = rule_out i d (min cells.forward forward) (min cells.backward backward)
 asked forward backward Branch = branch
 asked forward backward (Keep number) = keep number
-asked forward backward (Withdraw number f b) = withdraw number (min f forward) (min b backward)
-
--- what a call answered
-abbrev pub reply_of : Reply → Answer
-reply_of (Accepted n) = accepted n
-reply_of (Refused e) = refused (number_of e)
+asked forward backward (Withdraw number cells) = withdraw number (min cells.forward forward) (min cells.backward backward)
 
 -- the answer in an entry, if its call was made
 abbrev pub answer_in : Entry → Option Answer
-answer_in e = elim e.answer [ None ↦ None | Some r ↦ Some (reply_of r) ]
+answer_in e = option_as answer_of e.answer
 
 -- the calls of some entries
 abbrev pub calls_in : ℕ → ℕ → List Entry → List Asked

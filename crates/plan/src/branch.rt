@@ -1,6 +1,9 @@
 // Branches, as values that have to be given back.
 ghost use Rattle.std.specs.Prelude.{◌≡◌};
+ghost use Rattle.model.specs.Answers.{GivenBack, answer_of, outcome_back};
 ghost use Rattle.plan.specs.Latest.{IsLatest};
+
+use model::refusal::{HandedBack, Refusal};
 
 // An open branch of a plan, which knows it by its number alone, 1 to 8. It has no `Drop` and cannot be copied: only an accepted keep or
 // withdraw ends it.
@@ -29,6 +32,20 @@ impl Branch {
     {
         let Branch { number } = self;
         number
+    }
+
+    // What the call that was given the branch answers: an accepted one ends the branch, a refusal hands it back.
+    pub(crate) fn answered(self, answer: Result<u32, Refusal>) -> Result<u32, HandedBack<Branch>>
+        ensures answer { outcome_back (λ n. n) result ≡ answer_of answer }
+        ensures back { GivenBack self result }
+    {
+        match answer {
+            Ok(value) => {
+                let _ = self.spend();
+                Ok(value)
+            }
+            Err(refusal) => Err(HandedBack::new(refusal, self)),
+        }
     }
 }
 

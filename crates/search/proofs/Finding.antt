@@ -1,14 +1,14 @@
 -- The search: going down the marks with the least counts, and the kind to raise.
-use Rattle.std.proofs.Common.{◌≡◌, ℕ, zero, suc, ◌+◌, ◌-◌, ◌*◌, ◌<◌, ◌≤◌, Bool, true, false, ◌&&◌, eqb, ltb, List, [], ◌∷◌, ◌++◌, length, get_or, take, drop, set, is_some, Some, Option, sym, refl, ap, ◌∙◌, subst, inl, inr, append_assoc, add_assoc, zero-add, add-one, arith, take-append-drop, length-take}
+use Rattle.std.proofs.Common.{◌≡◌, ℕ, zero, suc, ◌+◌, ◌-◌, ◌*◌, ◌<◌, ◌≤◌, Bool, true, false, ◌&&◌, eqb, ltb, List, [], ◌∷◌, ◌++◌, length, get_or, take, drop, set, is_some, Some, Option, sym, refl, ap, ◌∙◌, subst, inl, inr, append_assoc, add_assoc, zero-add, add-one, arith}
 use Rattle.std.specs.List.{AllByRecursion, slice_get}
-use Rattle.std.proofs.lemmas.List.{take_all, take_more_set, take-set-le, drop_more, drop_all, drop_at, append-nil}
-use Rattle.std.proofs.lemmas.Bool.{cases_lt, cases_eq, cases_order, false≢true, both_ways, and_parts, and_from, lt-ltb, ltb-true, eq-eqb, eqb-true}
+use Rattle.std.proofs.lemmas.List.{take_all, take_more_set, drop_more, drop_all, append-nil}
+use Rattle.std.proofs.lemmas.Bool.{cases_eq, cases_order, false≢true, both_ways, and_parts, and_from, lt-ltb, ltb-true, eq-eqb, eqb-true}
 use Rattle.std.proofs.ByRecursion.{All-drop}
 use Rattle.meaning.proofs.Choosing.{cheap_parts}
 use Rattle.meaning.proofs.Marking.{close, closed}
-use Rattle.meaning.proofs.Rising.{first_kept, first_of_loads, next_nth, none_kept, none_of_loads}
+use Rattle.meaning.proofs.Rising.{first_kept, first_of_loads, head_nth, next_nth, none_kept, none_of_loads}
 use Rattle.meaning.proofs.Grid.{holds_at}
-use Rattle.meaning.proofs.Rows.{length_parts, parts_at}
+use Rattle.meaning.proofs.Rows.{length_parts}
 use Rattle.meaning.specs.Finding.{Gives, IsFirst, IsNext, first_load, next_load, or_kept}
 use Rattle.meaning.specs.Marks.{Cheap, Closes, Stands}
 use Rattle.meaning.specs.Models.{yes_no}
@@ -17,38 +17,45 @@ use Rattle.meaning.specs.Tallies.{tally_past}
 use Rattle.model.proofs.Order.{before_cases, less_first, not_first, not_rest, same_first}
 use Rattle.model.specs.Loads.{Fits, fits, total_of}
 use Rattle.model.specs.Order.{before}
-use Rattle.model.specs.Parts.{Part, part, parts}
+use Rattle.model.specs.Parts.{Part}
 use Rattle.model.specs.Sets.{has}
-use Rattle.model.specs.declared.kind.Kind.{Kind}
-use Rattle.search.specs.Search.{Held, Highest, Least, NoneFrom, closes, no_part, raises}
+use Rattle.search.specs.Search.{Highest, Least, NoneFrom, closes, is_closed_at, raises}
+use Rattle.search.specs.Seen.{Right, kinds_in, no_part, part_in, parts_in}
+use Rattle.search.specs.declared.marks.Marks.{Marks}
+
+pub parts_long : (m : Marks) → length (parts_in m) ≡ kinds_in m
+parts_long m = length_parts m.parts.kinds.now m.parts.sets.now m.parts.same
 
 -- ---- the marks, in the subject's words
 
-mark_at : (adm : ℕ → Bool) (ks : List Kind) (ss : List ℕ) (w : ℕ) (cells : List ℕ) → Held adm ks ss w cells → (i b : ℕ) → i ≤ length (parts ks ss) → b < w → get_or cells (i * w + b) 0 ≡ tally_past yes_no adm (drop i (parts ks ss)) b
-mark_at adm ks ss w cells held i b h l = holds_at 0 (length (parts ks ss) + 1) w (λ i b. tally_past yes_no adm (drop i (parts ks ss)) b) cells held.marks i b (omega arith) l
+module _ (adm : ℕ → Bool) (m : Marks) (right : Right adm m) where
+  cheap : (i : ℕ) → AllByRecursion Cheap (drop i (parts_in m))
+  cheap i = All-drop Cheap i (parts_in m) (cheap_parts m.parts.kinds.now m.parts.sets.now)
 
-module _ (adm : ℕ → Bool) (ks : List Kind) (ss : List ℕ) (w : ℕ) (cells : List ℕ) (held : Held adm ks ss w cells) (i : ℕ) (lt : i < length ks) (p : Part) (b d : ℕ) where
-  inside : i + 1 ≤ length (parts ks ss)
-  inside = omega (arith, length_parts ks ss held.long)
+  mark_at : (i b : ℕ) → i ≤ kinds_in m → b < m.width → get_or m.cells.now (i * m.width + b) 0 ≡ tally_past yes_no adm (drop i (parts_in m)) b
+  mark_at i b h l = holds_at 0 (length (parts_in m) + 1) m.width (λ i b. tally_past yes_no adm (drop i (parts_in m)) b) m.cells.now right.marks i b (omega (arith, parts_long m)) l
 
-  cheap : AllByRecursion Cheap (drop (i + 1) (parts ks ss))
-  cheap = All-drop Cheap (i + 1) (parts ks ss) (cheap_parts ks ss)
+  -- a mark says that the kinds from i on can close
+  pub mark_means : (i b : ℕ) → i ≤ kinds_in m → is_closed_at m i b ≡ true → Closes adm (drop i (parts_in m)) b
+  mark_means i b h y =
+      let two = and_parts (ltb b m.width) (eqb (get_or m.cells.now (i * m.width + b) 0) 1) y in
+      closed adm (drop i (parts_in m)) (cheap i) b (sym (mark_at i b h (ltb-true b m.width two.0)) ∙ eqb-true (get_or m.cells.now (i * m.width + b) 0) 1 two.1)
 
-  pub closes_means : closes cells ((i + 1) * w) w p b d ≡ true → (has p.standing d ≡ true) × Closes adm (drop (i + 1) (parts ks ss)) (b + p.size * d)
-  closes_means y =
-      let one = and_parts (has p.standing d) (ltb (b + p.size * d) w && eqb (get_or cells ((i + 1) * w + (b + p.size * d)) 0) 1) y in
-      let two = and_parts (ltb (b + p.size * d) w) (eqb (get_or cells ((i + 1) * w + (b + p.size * d)) 0) 1) one.1 in
-      let mark = mark_at adm ks ss w cells held (i + 1) (b + p.size * d) inside (ltb-true (b + p.size * d) w two.0) in
-      (one.0, closed adm (drop (i + 1) (parts ks ss)) cheap (b + p.size * d) (sym mark ∙ eqb-true (get_or cells ((i + 1) * w + (b + p.size * d)) 0) 1 two.1))
+  pub means_mark : (i b : ℕ) → i ≤ kinds_in m → Closes adm (drop i (parts_in m)) b → is_closed_at m i b ≡ true
+  means_mark i b h k =
+      let low : b < m.width = omega (arith, right.bound (b + total_of (drop i (parts_in m)) k.0) k.1.1) in
+      and_from (ltb b m.width) (eqb (get_or m.cells.now (i * m.width + b) 0) 1) (lt-ltb b m.width low)
+      (eq-eqb (get_or m.cells.now (i * m.width + b) 0) 1 (mark_at i b h low ∙ close adm (drop i (parts_in m)) (cheap i) b k))
 
-  pub means_closes : has p.standing d ≡ true → Closes adm (drop (i + 1) (parts ks ss)) (b + p.size * d) → closes cells ((i + 1) * w) w p b d ≡ true
-  means_closes y k =
-      let top : b + p.size * d + total_of (drop (i + 1) (parts ks ss)) k.0 < w = held.bound (b + p.size * d + total_of (drop (i + 1) (parts ks ss)) k.0) k.1.1 in
-      let low : b + p.size * d < w = omega arith in
-      let mark = mark_at adm ks ss w cells held (i + 1) (b + p.size * d) inside low in
-      and_from (has p.standing d) (ltb (b + p.size * d) w && eqb (get_or cells ((i + 1) * w + (b + p.size * d)) 0) 1) y
-      (and_from (ltb (b + p.size * d) w) (eqb (get_or cells ((i + 1) * w + (b + p.size * d)) 0) 1) (lt-ltb (b + p.size * d) w low)
-      (eq-eqb (get_or cells ((i + 1) * w + (b + p.size * d)) 0) 1 (mark ∙ close adm (drop (i + 1) (parts ks ss)) cheap (b + p.size * d) k)))
+  pub closes_means : (i b d : ℕ) → i < kinds_in m → closes m i b d ≡ true → (has (part_in m i).standing d ≡ true) × Closes adm (drop (i + 1) (parts_in m)) (b + (part_in m i).size * d)
+  closes_means i b d lt y =
+      let one = and_parts (has (part_in m i).standing d) (is_closed_at m (i + 1) (b + (part_in m i).size * d)) y in
+      (one.0, mark_means (i + 1) (b + (part_in m i).size * d) (omega arith) one.1)
+
+  pub means_closes : (i b d : ℕ) → i < kinds_in m → has (part_in m i).standing d ≡ true → Closes adm (drop (i + 1) (parts_in m)) (b + (part_in m i).size * d) → closes m i b d ≡ true
+  means_closes i b d lt y k =
+      and_from (has (part_in m i).standing d) (is_closed_at m (i + 1) (b + (part_in m i).size * d)) y
+      (means_mark (i + 1) (b + (part_in m i).size * d) (omega arith) k)
 
 -- ---- going down with the least counts
 
@@ -79,41 +86,33 @@ module _ (adm : ℕ → Bool) where
             ]
           ]
 
-  -- The places from `from` up to i are filled: what is least from i on is least from `from` on.
-  pub record Filling (ps : List Part) (from b₀ : ℕ) (start : List ℕ) (i b : ℕ) (load : List ℕ) : Type 0 where
-    pub closes : Closes adm (drop i ps) b
-    pub front : take from load ≡ take from start
-    pub rest : (r : List ℕ) → Least adm (drop i ps) b r → Least adm (drop from ps) b₀ (drop from (take i load ++ r))
+  -- Of the counts for the places from `from` on the first i are filled: what is least after them is least with them.
+  pub record Filling (ps : List Part) (from b₀ i b : ℕ) (counts : List ℕ) : Type 0 where
+    pub closes : Closes adm (drop (from + i) ps) b
+    pub rest : (r : List ℕ) → Least adm (drop (from + i) ps) b r → Least adm (drop from ps) b₀ (take i counts ++ r)
 
-  pub fill_none : (ps : List Part) (from b : ℕ) (start : List ℕ) → from ≤ length start → Closes adm (drop from ps) b → Filling ps from b start from b start
-  fill_none ps from b start h k =
-      let n : length (take from start) ≡ from = length-take from start ∙ omega arith in
+  pub fill_more : (ps : List Part) (from b₀ i b : ℕ) (counts : List ℕ) (p : Part) (d : ℕ) → from + i < length ps → i < length counts → p ≡ get_or ps (from + i) no_part → d < 64 → has p.standing d ≡ true → Closes adm (drop (from + i + 1) ps) (b + p.size * d) → ((e : ℕ) → e < d → has p.standing e ≡ true → Closes adm (drop (from + i + 1) ps) (b + p.size * e) → ⊥) → Filling ps from b₀ i b counts → Filling ps from b₀ (i + 1) (b + p.size * d) (set counts i d)
+  fill_more ps from b₀ i b counts p d lt in' e low y k none f =
+      let split : drop (from + i) ps ≡ p ∷ drop (from + i + 1) ps = drop_more ps (from + i) no_part lt ∙ ap (λ q. q ∷ drop (from + i + 1) ps) (sym e) in
+      let next : from + (i + 1) ≡ from + i + 1 = omega arith in
+      let C : ℕ → Type 0 = λ n. Closes adm (drop n ps) (b + p.size * d) in
       record {
-        closes = k;
-        front = refl;
-        rest = λ r l. let P : List ℕ → Type 0 = λ xs. Least adm (drop from ps) b xs in subst P (sym (drop_at (take from start) r from n)) l;
-      }
-
-  pub fill_more : (ps : List Part) (from b₀ : ℕ) (start : List ℕ) (i b : ℕ) (load : List ℕ) (p : Part) (d : ℕ) → i < length ps → i < length load → from ≤ i → p ≡ get_or ps i no_part → d < 64 → has p.standing d ≡ true → Closes adm (drop (i + 1) ps) (b + p.size * d) → ((e : ℕ) → e < d → has p.standing e ≡ true → Closes adm (drop (i + 1) ps) (b + p.size * e) → ⊥) → Filling ps from b₀ start i b load → Filling ps from b₀ start (i + 1) (b + p.size * d) (set load i d)
-  fill_more ps from b₀ start i b load p d lt in' le e low y k none f =
-      let split : drop i ps ≡ p ∷ drop (i + 1) ps = drop_more ps i no_part lt ∙ ap (λ q. q ∷ drop (i + 1) ps) (sym e) in
-      record {
-        closes = k;
-        front = take-set-le from load i d le ∙ f.front;
+        closes = subst C (sym next) k;
         rest = λ r l.
             let P : List Part → Type 0 = λ qs. Least adm qs b (d ∷ r) in
-            let Q : List ℕ → Type 0 = λ xs. Least adm (drop from ps) b₀ (drop from xs) in
-            let same : take i load ++ d ∷ r ≡ take (i + 1) (set load i d) ++ r = sym (ap (λ xs. xs ++ r) (take_more_set load i d in') ∙ append_assoc (take i load) (d ∷ []) r) in
-            subst Q same (f.rest (d ∷ r) (subst P (sym split) (least_more p (drop (i + 1) ps) b d r low y none l)));
+            let L : ℕ → Type 0 = λ n. Least adm (drop n ps) (b + p.size * d) r in
+            let Q : List ℕ → Type 0 = λ xs. Least adm (drop from ps) b₀ xs in
+            let same : take i counts ++ d ∷ r ≡ take (i + 1) (set counts i d) ++ r = sym (ap (λ xs. xs ++ r) (take_more_set counts i d in') ∙ append_assoc (take i counts) (d ∷ []) r) in
+            subst Q same (f.rest (d ∷ r) (subst P (sym split) (least_more p (drop (from + i + 1) ps) b d r low y none (subst L next l))));
       }
 
-  pub fill_all : (ps : List Part) (from b₀ : ℕ) (start : List ℕ) (i b : ℕ) (load : List ℕ) → length ps ≤ i → length load ≤ i → Filling ps from b₀ start i b load → Least adm (drop from ps) b₀ (drop from load)
-  fill_all ps from b₀ start i b load le le' f =
-      let none : drop i ps ≡ [] = drop_all i ps le in
+  pub fill_all : (ps : List Part) (from b₀ i b : ℕ) (counts : List ℕ) → length ps ≤ from + i → length counts ≤ i → Filling ps from b₀ i b counts → Least adm (drop from ps) b₀ counts
+  fill_all ps from b₀ i b counts le le' f =
+      let none : drop (from + i) ps ≡ [] = drop_all (from + i) ps le in
       let C : List Part → Type 0 = λ qs. Closes adm qs b in
       let L : List Part → Type 0 = λ qs. Least adm qs b [] in
-      let Q : List ℕ → Type 0 = λ xs. Least adm (drop from ps) b₀ (drop from xs) in
-      subst Q (append-nil (take i load) ∙ take_all i load le') (f.rest [] (subst L (sym none) (least_none b (subst C none f.closes))))
+      let Q : List ℕ → Type 0 = λ xs. Least adm (drop from ps) b₀ xs in
+      subst Q (append-nil (take i counts) ∙ take_all i counts le') (f.rest [] (subst L (sym none) (least_none b (subst C none f.closes))))
 
   -- ---- the kind to raise
 
@@ -261,82 +260,58 @@ stands_there (p ∷ ps) (c ∷ g) (suc i) (suc j) lt h l s = stands_there ps g i
 
 -- ---- the loops over the places
 
--- the first test that passes is not past any that does
-pub not_past : (F : ℕ → Bool) (k d : ℕ) → F k ≡ true → ((e : ℕ) → e < d → F e ≡ false) → d ≤ k
-not_past F k d y none = elim (cases_lt k d) [ inl lt ↦ absurd (both_ways (F k) (none k lt) y) | inr le ↦ le ]
-
-pub total_step : (ps : List Part) (g : List ℕ) (i t : ℕ) (p : Part) → i < length ps → i < length g → p ≡ get_or ps i no_part → t ≡ total_to ps g i → t + p.size * get_or g i 0 ≡ total_to ps g (i + 1)
-total_step ps g i t p lt lt' e h =
+pub total_step : (ps : List Part) (g : List ℕ) (i t : ℕ) → i < length ps → i < length g → t ≡ total_to ps g i → t + (get_or ps i no_part).size * get_or g i 0 ≡ total_to ps g (i + 1)
+total_step ps g i t lt lt' h =
     let m = total_more ps g i lt lt' in
-    let s : p.size * get_or g i 0 ≡ (get_or ps i no_part).size * get_or g i 0 = ap (λ q. q.size * get_or g i 0) e in
-    let n : t + p.size * get_or g i 0 ≡ total_to ps g (suc i) = omega arith in
+    let n : t + (get_or ps i no_part).size * get_or g i 0 ≡ total_to ps g (suc i) = omega arith in
     n ∙ ap (total_to ps g) (sym (add-one i))
 
-pub stands_step : (ps : List Part) (g : List ℕ) (i : ℕ) (p : Part) (b : Bool) → i < length ps → i < length g → p ≡ get_or ps i no_part → ((j : ℕ) → j ≤ i → Stands (take j ps) (take j g)) → b ≡ (ltb (get_or g i 0) 64 && has p.standing (get_or g i 0)) → b ≡ true → (j : ℕ) → j ≤ i + 1 → Stands (take j ps) (take j g)
-stands_step ps g i p b lt lt' e old is y j le =
-    let two = and_parts (ltb (get_or g i 0) 64) (has p.standing (get_or g i 0)) (sym is ∙ y) in
+pub stands_step : (ps : List Part) (g : List ℕ) (i : ℕ) (b : Bool) → i < length ps → i < length g → ((j : ℕ) → j ≤ i → Stands (take j ps) (take j g)) → b ≡ (ltb (get_or g i 0) 64 && has (get_or ps i no_part).standing (get_or g i 0)) → b ≡ true → (j : ℕ) → j ≤ i + 1 → Stands (take j ps) (take j g)
+stands_step ps g i b lt lt' old is y j le =
+    let two = and_parts (ltb (get_or g i 0) 64) (has (get_or ps i no_part).standing (get_or g i 0)) (sym is ∙ y) in
     let P : ℕ → Type 0 = λ k. Stands (take k ps) (take k g) in
     elim (cases_eq j (i + 1)) [
-      | inl same ↦
-          subst P (sym (same ∙ add-one i))
-          (stands_more ps g i lt lt' (old i (omega arith)) (ltb-true (get_or g i 0) 64 two.0) (ap (λ q. has q.standing (get_or g i 0)) (sym e) ∙ two.1))
+      | inl same ↦ subst P (sym (same ∙ add-one i)) (stands_more ps g i lt lt' (old i (omega arith)) (ltb-true (get_or g i 0) 64 two.0) two.1)
       | inr other ↦ old j (omega arith)
     ]
 
-pub stands_ends : (ps : List Part) (g : List ℕ) (i : ℕ) (p : Part) (b : Bool) → i < length ps → i < length g → p ≡ get_or ps i no_part → b ≡ (ltb (get_or g i 0) 64 && has p.standing (get_or g i 0)) → b ≡ false → (j : ℕ) → i + 1 ≤ j → Stands (take j ps) (take j g) → ⊥
-stands_ends ps g i p b lt lt' e is n j le s =
+pub stands_ends : (ps : List Part) (g : List ℕ) (i : ℕ) (b : Bool) → i < length ps → i < length g → b ≡ (ltb (get_or g i 0) 64 && has (get_or ps i no_part).standing (get_or g i 0)) → b ≡ false → (j : ℕ) → i + 1 ≤ j → Stands (take j ps) (take j g) → ⊥
+stands_ends ps g i b lt lt' is n j le s =
     let t = stands_there ps g i j (omega arith) lt lt' s in
-    both_ways b n (is ∙ and_from (ltb (get_or g i 0) 64) (has p.standing (get_or g i 0)) (lt-ltb (get_or g i 0) 64 t.0) (ap (λ q. has q.standing (get_or g i 0)) e ∙ t.1))
+    both_ways b n (is ∙ and_from (ltb (get_or g i 0) 64) (has (get_or ps i no_part).standing (get_or g i 0)) (lt-ltb (get_or g i 0) 64 t.0) t.1)
 
--- what a turn at place i knows of the kind k that it reads there: of a total that the bytes up to and with i have, its part can be taken off
-pub record Turn (ks : List Kind) (ss g : List ℕ) (i total : ℕ) (k : Kind) : Type 0 where
-  pub at : part k (get_or ss i 0) ≡ get_or (parts ks ss) i no_part
-  pub inside : i < length (parts ks ss)
-  pub covers : k.size * get_or g i 0 ≤ total
-  pub left : total - k.size * get_or g i 0 ≡ total_to (parts ks ss) g i
-
-pub turn : (ks : List Kind) (ss g : List ℕ) (i j total : ℕ) (k : Kind) → length ss ≡ length ks → length g ≡ length ks → i < length ks → i + 1 ≡ j → k ≡ get_or ks i k → total ≡ total_to (parts ks ss) g j → Turn ks ss g i total k
-turn ks ss g i j total k e f lt next is sum =
-    let n : i < length (parts ks ss) = omega (arith, length_parts ks ss e) in
-    let read = parts_at ks ss i k (get_or ss i 0) no_part lt (omega arith) is refl in
-    let step = total_step (parts ks ss) g i (total_to (parts ks ss) g i) (part k (get_or ss i 0)) n (omega arith) read refl ∙ ap (total_to (parts ks ss) g) next in
-    record { at = read; inside = n; covers = omega arith; left = omega arith }
-
-pub raise_test : (r : Bool) (cells : List ℕ) (w : ℕ) (ps : List Part) (g : List ℕ) (i : ℕ) (p : Part) (b d : ℕ) → p ≡ get_or ps i no_part → b ≡ total_to ps g i → r ≡ (ltb (get_or g i 0) d && closes cells ((i + 1) * w) w p b d) → raises cells w ps g i d ≡ r
-raise_test r cells w ps g i p b d e f h =
-    sym (h ∙ ap (λ q. ltb (get_or g i 0) d && closes cells ((i + 1) * w) w q b d) e ∙ ap (λ n. ltb (get_or g i 0) d && closes cells ((i + 1) * w) w (get_or ps i no_part) n d) f)
+-- of the total of the bytes up to and with place i, the part of the byte at i can be taken off
+pub taken_off : (m : Marks) (g : List ℕ) (i j total v : ℕ) → i < kinds_in m → length g ≡ kinds_in m → i + 1 ≡ j → total ≡ total_to (parts_in m) g j → v ≡ (part_in m i).size * get_or g i 0 → (v ≤ total) × (total - v ≡ total_to (parts_in m) g i)
+taken_off m g i j total v lt f next sum is =
+    let step = total_step (parts_in m) g i (total_to (parts_in m) g i) (omega (arith, parts_long m)) (omega arith) refl ∙ ap (total_to (parts_in m) g) next in
+    (omega arith, omega arith)
 
 -- none from i + 1 on, and none at i
-pub lower : (cells : List ℕ) (w : ℕ) (ps : List Part) (g : List ℕ) (i : ℕ) → NoneFrom cells w ps g (i + 1) → ((d : ℕ) → d < 64 → raises cells w ps g i d ≡ false) → NoneFrom cells w ps g i
-lower cells w ps g i above here j d a l low s =
+pub lower : (m : Marks) (g : List ℕ) (i : ℕ) → NoneFrom m g (i + 1) → ((d : ℕ) → d < 64 → raises m g i d ≡ false) → NoneFrom m g i
+lower m g i above here j d a l low s =
     elim (cases_eq j i) [
-      | inl e ↦ ap (λ k. raises cells w ps g k d) e ∙ here d low
+      | inl e ↦ ap (λ k. raises m g k d) e ∙ here d low
       | inr ne ↦ above j d (omega arith) l low s
     ]
 
--- where the parts from i on can close, some count of the part at i can
+-- where the parts p and qs can close, some count of p can
 pub closing : (adm : ℕ → Bool) (p : Part) (qs : List Part) (b : ℕ) (c : List ℕ) → Stands (p ∷ qs) c → adm (b + total_of (p ∷ qs) c) ≡ true → (d : ℕ) × ((d < 64) × (has p.standing d ≡ true) × Closes adm qs (b + p.size * d))
 closing adm p qs b [] h a = absurd h
 closing adm p qs b (d ∷ c) h a = (d, (h.0, h.1, (c, (h.2, shifted adm p qs b d d c refl a))))
 
-pub some_closes : (adm : ℕ → Bool) (ks : List Kind) (ss : List ℕ) (w : ℕ) (cells : List ℕ) (held : Held adm ks ss w cells) (i : ℕ) (lt : i < length ks) (p : Part) (b : ℕ) → p ≡ get_or (parts ks ss) i no_part → Closes adm (drop i (parts ks ss)) b → (d : ℕ) × ((d < 64) × (closes cells ((i + 1) * w) w p b d ≡ true))
-some_closes adm ks ss w cells held i lt p b e k =
-    let n : i < length (parts ks ss) = omega (arith, length_parts ks ss held.long) in
-    let split : drop i (parts ks ss) ≡ p ∷ drop (i + 1) (parts ks ss) = drop_more (parts ks ss) i no_part n ∙ ap (λ q. q ∷ drop (i + 1) (parts ks ss)) (sym e) in
-    let C : List Part → Type 0 = λ qs. Closes adm qs b in
-    let k' = subst C split k in
-    let t = closing adm p (drop (i + 1) (parts ks ss)) b k'.0 k'.1.0 k'.1.1 in
-    (t.0, (t.1.0, means_closes adm ks ss w cells held i lt p b t.0 t.1.1 t.1.2))
-
--- what can close is below the width
-pub closes_low : (adm : ℕ → Bool) (ks : List Kind) (ss : List ℕ) (w : ℕ) (cells : List ℕ) → Held adm ks ss w cells → (qs : List Part) (b : ℕ) → Closes adm qs b → b < w
-closes_low adm ks ss w cells held qs b k = omega (arith, held.bound (b + total_of qs k.0) k.1.1)
-
 -- ---- the answers
 
-module _ (adm : ℕ → Bool) (ks : List Kind) (ss : List ℕ) (w : ℕ) (cells : List ℕ) (held : Held adm ks ss w cells) where
-  count : length (parts ks ss) ≡ length ks
-  count = length_parts ks ss held.long
+module _ (adm : ℕ → Bool) (m : Marks) (right : Right adm m) where
+  pub some_closes : (i : ℕ) → i < kinds_in m → (b : ℕ) → Closes adm (drop i (parts_in m)) b → (d : ℕ) × ((d < 64) × (closes m i b d ≡ true))
+  some_closes i lt b k =
+      let C : List Part → Type 0 = λ qs. Closes adm qs b in
+      let k' = subst C (drop_more (parts_in m) i no_part (omega (arith, parts_long m))) k in
+      let t = closing adm (part_in m i) (drop (i + 1) (parts_in m)) b k'.0 k'.1.0 k'.1.1 in
+      (t.0, (t.1.0, means_closes adm m right i b t.0 lt t.1.1 t.1.2))
+
+  -- what can close is below the width
+  pub closes_low : (qs : List Part) (b : ℕ) → Closes adm qs b → b < m.width
+  closes_low qs b k = omega (arith, right.bound (b + total_of qs k.0) k.1.1)
 
   from_zero : (n : ℕ) → adm n ≡ true → adm (0 + n) ≡ true
   from_zero n a = ap adm (zero-add n) ∙ a
@@ -344,102 +319,93 @@ module _ (adm : ℕ → Bool) (ks : List Kind) (ss : List ℕ) (w : ℕ) (cells 
   to_zero : (n : ℕ) → adm (0 + n) ≡ true → adm n ≡ true
   to_zero n a = sym (ap adm (zero-add n)) ∙ a
 
-  mark_zero : get_or cells 0 0 ≡ tally_past yes_no adm (parts ks ss) 0
-  mark_zero = let e : 0 ≡ 0 * w + 0 = omega arith in ap (λ k. get_or cells k 0) e ∙ mark_at adm ks ss w cells held 0 0 (omega arith) held.some
+  pub first_none : is_closed_at m 0 0 ≡ false → (y : List ℕ) → Fits adm (parts_in m) y → ⊥
+  first_none unmarked y f = both_ways (is_closed_at m 0 0) unmarked (means_mark adm m right 0 0 (omega arith) (y, (f.0, from_zero (total_of (parts_in m) y) f.1)))
 
-  -- the first cell tells whether there is a load
-  pub first_closes : get_or cells 0 0 ≡ 1 → Closes adm (parts ks ss) 0
-  first_closes y = closed adm (parts ks ss) (cheap_parts ks ss) 0 (sym mark_zero ∙ y)
-
-  pub first_none : (get_or cells 0 0 ≡ 1 → ⊥) → (y : List ℕ) → Fits adm (parts ks ss) y → ⊥
-  first_none unmarked y f = unmarked (mark_zero ∙ close adm (parts ks ss) (cheap_parts ks ss) 0 (y, (f.0, from_zero (total_of (parts ks ss) y) f.1)))
-
-  pub least_first : (x : List ℕ) → Least adm (parts ks ss) 0 x → IsFirst adm (parts ks ss) x
+  pub least_first : (x : List ℕ) → Least adm (parts_in m) 0 x → IsFirst adm (parts_in m) x
   least_first x l = record {
-    fits = (l.stands, to_zero (total_of (parts ks ss) x) l.closes);
-    none_before = λ y f. l.least y f.0 (from_zero (total_of (parts ks ss) y) f.1);
+    fits = (l.stands, to_zero (total_of (parts_in m) x) l.closes);
+    none_before = λ y f. l.least y f.0 (from_zero (total_of (parts_in m) y) f.1);
   }
 
-  pub first_gives : (x entry : List ℕ) → IsFirst adm (parts ks ss) x → Gives (first_load adm (parts ks ss)) entry true x
+  pub first_gives : (x entry : List ℕ) → IsFirst adm (parts_in m) x → Gives (first_load adm (parts_in m)) entry true x
   first_gives x entry h =
-      let e = first_of_loads adm (parts ks ss) x h.fits h.none_before in
+      let e = first_of_loads adm (parts_in m) x h.fits h.none_before in
       record { answer = sym (ap is_some e); load = sym (ap (λ o. or_kept o entry) e) }
 
-  pub none_gives : (entry : List ℕ) → ((y : List ℕ) → Fits adm (parts ks ss) y → ⊥) → Gives (first_load adm (parts ks ss)) entry false entry
+  pub none_gives : (entry : List ℕ) → ((y : List ℕ) → Fits adm (parts_in m) y → ⊥) → Gives (first_load adm (parts_in m)) entry false entry
   none_gives entry none =
-      let e = none_of_loads adm (parts ks ss) none in
+      let e = none_of_loads adm (parts_in m) none in
       record { answer = sym (ap is_some e); load = sym (ap (λ o. or_kept o entry) e) }
 
   -- raising, by the marks and in the subject's words
-  module _ (g : List ℕ) (long : length g ≡ length ks) where
-    pub raise_means : (i d : ℕ) → i < length (parts ks ss) → Stands (take i (parts ks ss)) (take i g) → d < 64 → raises cells w (parts ks ss) g i d ≡ true → RaisesAt adm (parts ks ss) 0 g i d
+  module _ (g : List ℕ) (long : length g ≡ kinds_in m) where
+    pub raise_means : (i d : ℕ) → i < kinds_in m → Stands (take i (parts_in m)) (take i g) → d < 64 → raises m g i d ≡ true → RaisesAt adm (parts_in m) 0 g i d
     raise_means i d lt s low y =
-        let p = get_or (parts ks ss) i no_part in
-        let b = total_to (parts ks ss) g i in
-        let two = and_parts (ltb (get_or g i 0) d) (closes cells ((i + 1) * w) w p b d) y in
-        let m = closes_means adm ks ss w cells held i (omega (arith, count)) p b d two.1 in
-        let C : ℕ → Type 0 = λ n. Closes adm (drop n (parts ks ss)) (b + p.size * d) in
-        let D : ℕ → Type 0 = λ n. Closes adm (drop (suc i) (parts ks ss)) n in
+        let p = part_in m i in
+        let b = total_to (parts_in m) g i in
+        let two = and_parts (ltb (get_or g i 0) d) (closes m i b d) y in
+        let k = closes_means adm m right i b d lt two.1 in
+        let C : ℕ → Type 0 = λ n. Closes adm (drop n (parts_in m)) (b + p.size * d) in
+        let D : ℕ → Type 0 = λ n. Closes adm (drop (suc i) (parts_in m)) n in
         let same : b + p.size * d ≡ 0 + b + p.size * d = omega arith in
-        record { place = lt; stands = s; above = ltb-true (get_or g i 0) d two.0; count = low; member = m.0; closes = subst D same (subst C (add-one i) m.1) }
+        record { place = omega (arith, parts_long m); stands = s; above = ltb-true (get_or g i 0) d two.0; count = low; member = k.0; closes = subst D same (subst C (add-one i) k.1) }
 
-    pub means_raise : (i d : ℕ) → RaisesAt adm (parts ks ss) 0 g i d → raises cells w (parts ks ss) g i d ≡ true
+    pub means_raise : (i d : ℕ) → RaisesAt adm (parts_in m) 0 g i d → raises m g i d ≡ true
     means_raise i d r =
-        let p = get_or (parts ks ss) i no_part in
-        let b = total_to (parts ks ss) g i in
-        let C : ℕ → Type 0 = λ n. Closes adm (drop n (parts ks ss)) (b + p.size * d) in
-        let D : ℕ → Type 0 = λ n. Closes adm (drop (suc i) (parts ks ss)) n in
+        let p = part_in m i in
+        let b = total_to (parts_in m) g i in
+        let C : ℕ → Type 0 = λ n. Closes adm (drop n (parts_in m)) (b + p.size * d) in
+        let D : ℕ → Type 0 = λ n. Closes adm (drop (suc i) (parts_in m)) n in
         let same : 0 + b + p.size * d ≡ b + p.size * d = omega arith in
-        and_from (ltb (get_or g i 0) d) (closes cells ((i + 1) * w) w p b d) (lt-ltb (get_or g i 0) d r.above)
-        (means_closes adm ks ss w cells held i (omega (arith, count, r.place)) p b d r.member (subst C (sym (add-one i)) (subst D same r.closes)))
+        and_from (ltb (get_or g i 0) d) (closes m i b d) (lt-ltb (get_or g i 0) d r.above)
+        (means_closes adm m right i b d (omega (arith, parts_long m, r.place)) r.member (subst C (sym (add-one i)) (subst D same r.closes)))
 
-    pub next_none : NoneFrom cells w (parts ks ss) g 0 → (y : List ℕ) → Fits adm (parts ks ss) y → before g y ≡ true → ⊥
+    pub next_none : NoneFrom m g 0 → (y : List ℕ) → Fits adm (parts_in m) y → before g y ≡ true → ⊥
     next_none none y f l =
-        let t = some_raise adm (parts ks ss) 0 g y (long ∙ sym count) f.0 (from_zero (total_of (parts ks ss) y) f.1) l in
+        let t = some_raise adm (parts_in m) 0 g y (long ∙ sym (parts_long m)) f.0 (from_zero (total_of (parts_in m) y) f.1) l in
         let r = t.2 in
-        both_ways (raises cells w (parts ks ss) g t.0 t.1) (none t.0 t.1 (omega arith) r.place r.count r.stands) (means_raise t.0 t.1 r)
+        both_ways (raises m g t.0 t.1) (none t.0 t.1 (omega arith) (omega (arith, parts_long m, r.place)) r.count r.stands) (means_raise t.0 t.1 r)
 
     -- what can be closed after the raise
-    pub raise_closes : (i d t : ℕ) → Highest cells w (parts ks ss) g i d t → Closes adm (drop (i + 1) (parts ks ss)) t
+    pub raise_closes : (i d t : ℕ) → Highest m g i d t → Closes adm (drop (i + 1) (parts_in m)) t
     raise_closes i d t h =
-        let p = get_or (parts ks ss) i no_part in
-        let b = total_to (parts ks ss) g i in
-        let two = and_parts (ltb (get_or g i 0) d) (closes cells ((i + 1) * w) w p b d) h.raised in
-        let D : ℕ → Type 0 = λ n. Closes adm (drop (i + 1) (parts ks ss)) n in
-        subst D (sym h.total) (closes_means adm ks ss w cells held i (omega (arith, count, h.place)) p b d two.1).1
+        let b = total_to (parts_in m) g i in
+        let two = and_parts (ltb (get_or g i 0) d) (closes m i b d) h.raised in
+        let D : ℕ → Type 0 = λ n. Closes adm (drop (i + 1) (parts_in m)) n in
+        subst D (sym h.total) (closes_means adm m right i b d h.place two.1).1
 
-    pub raise_next : (i d t : ℕ) (x : List ℕ) → Highest cells w (parts ks ss) g i d t → take (i + 1) x ≡ take (i + 1) (set g i d) → Least adm (drop (i + 1) (parts ks ss)) t (drop (i + 1) x) → IsNext adm (parts ks ss) g x
-    raise_next i d t x h front rest =
-        let lt : i < length g = omega (arith, h.place, count) in
-        let whole : take i g ++ d ∷ drop (i + 1) x ≡ x =
-        sym (append_assoc (take i g) (d ∷ []) (drop (i + 1) x)) ∙ ap (λ xs. xs ++ drop (i + 1) x) (sym (front ∙ take_more_set g i d lt)) ∙ take-append-drop (i + 1) x in
-        let L : ℕ → Type 0 = λ n. Least adm (drop n (parts ks ss)) t (drop (i + 1) x) in
-        let A : List ℕ → Type 0 = λ xs. After adm (parts ks ss) 0 g xs in
-        let total : t ≡ 0 + total_to (parts ks ss) g i + (get_or (parts ks ss) i no_part).size * d = omega (arith, h.total) in
-        let a = subst A whole
-        (raised_next adm (parts ks ss) 0 g i d t (drop (i + 1) x) (long ∙ sym count) (raise_means i d h.place h.stands h.count h.raised)
-        (λ e low r. both_ways (raises cells w (parts ks ss) g i e) (h.least e low) (means_raise i e r))
-        (λ j e later r. both_ways (raises cells w (parts ks ss) g j e) (h.last j e (omega arith) r.place r.count r.stands) (means_raise j e r))
-        total (subst L (add-one i) rest)) in
+    pub raise_next : (i d t : ℕ) (r : List ℕ) → Highest m g i d t → Least adm (drop (i + 1) (parts_in m)) t r → IsNext adm (parts_in m) g (take i g ++ d ∷ r)
+    raise_next i d t r h rest =
+        let x = take i g ++ d ∷ r in
+        let L : ℕ → Type 0 = λ n. Least adm (drop n (parts_in m)) t r in
+        let total : t ≡ 0 + total_to (parts_in m) g i + (part_in m i).size * d = omega (arith, h.total) in
+        let a = raised_next adm (parts_in m) 0 g i d t r (long ∙ sym (parts_long m)) (raise_means i d h.place h.stands h.count h.raised)
+        (λ e low k. both_ways (raises m g i e) (h.least e low) (means_raise i e k))
+        (λ j e later k. both_ways (raises m g j e) (h.last j e (omega arith) (omega (arith, parts_long m, k.place)) k.count k.stands) (means_raise j e k))
+        total (subst L (add-one i) rest) in
         record {
-          fits = (a.stands, to_zero (total_of (parts ks ss) x) a.closes);
+          fits = (a.stands, to_zero (total_of (parts_in m) x) a.closes);
           after = a.after;
-          none_between = λ y f l. a.least y f.0 (from_zero (total_of (parts ks ss) y) f.1) l;
+          none_between = λ y f l. a.least y f.0 (from_zero (total_of (parts_in m) y) f.1) l;
         }
 
-    pub next_gives : (x : List ℕ) → IsNext adm (parts ks ss) g x → Gives (next_load adm (parts ks ss) g) g true x
+    pub next_gives : (x : List ℕ) → IsNext adm (parts_in m) g x → Gives (next_load adm (parts_in m) g) g true x
     next_gives x h =
-        let e = first_kept adm (parts ks ss) (before g) x h.fits h.after h.none_between in
+        let e = first_kept adm (parts_in m) (before g) x h.fits h.after h.none_between in
         record { answer = sym (ap is_some e); load = sym (ap (λ o. or_kept o g) e) }
 
-    pub none_next_gives : ((y : List ℕ) → Fits adm (parts ks ss) y → before g y ≡ true → ⊥) → Gives (next_load adm (parts ks ss) g) g false g
+    pub none_next_gives : ((y : List ℕ) → Fits adm (parts_in m) y → before g y ≡ true → ⊥) → Gives (next_load adm (parts_in m) g) g false g
     none_next_gives none =
-        let e = none_kept adm (parts ks ss) (before g) none in
+        let e = none_kept adm (parts_in m) (before g) none in
         record { answer = sym (ap is_some e); load = sym (ap (λ o. or_kept o g) e) }
 
 -- the same as an element of the list of fitting loads
 pub gives_same : (o o' : Option (List ℕ)) (entry : List ℕ) (r : Bool) (x : List ℕ) → o ≡ o' → Gives o entry r x → Gives o' entry r x
 gives_same o o' entry r x e h = let P : Option (List ℕ) → Type 0 = λ v. Gives v entry r x in subst P e h
+
+pub first_in_run : (adm : ℕ → Bool) (ps : List Part) (g : List ℕ) (r : Bool) (x : List ℕ) → Gives (first_load adm ps) g r x → Gives (slice_get (fits adm ps) 0) g r x
+first_in_run adm ps g r x h = gives_same (first_load adm ps) (slice_get (fits adm ps) 0) g r x (head_nth (fits adm ps)) h
 
 pub next_in_run : (adm : ℕ → Bool) (ps : List Part) (g : List ℕ) (r : Bool) (x : List ℕ) → Gives (next_load adm ps g) g r x → (k : ℕ) → slice_get (fits adm ps) k ≡ Some g → Gives (slice_get (fits adm ps) (k + 1)) g r x
 next_in_run adm ps g r x h k e = gives_same (next_load adm ps g) (slice_get (fits adm ps) (k + 1)) g r x (next_nth adm ps k g e ∙ ap (slice_get (fits adm ps)) (sym (add-one k))) h

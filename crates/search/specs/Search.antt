@@ -1,31 +1,21 @@
 -- What the parts of the search say.
-use Rattle.std.specs.Prelude.{◌≡◌, ℕ, ◌+◌, ◌*◌, ◌<◌, ◌≤◌, Bool, true, false, ◌&&◌, List, length, get_or, take, ◌==◌, nat_lt, slice_index, slice_index_or}
+use Rattle.std.specs.Prelude.{◌≡◌, ℕ, ◌+◌, ◌*◌, ◌<◌, ◌≤◌, Bool, true, false, ◌&&◌, List, length, take, ◌==◌, nat_lt, slice_index}
 use Rattle.meaning.specs.Marks.{Stands}
-use Rattle.meaning.specs.Models.{yes_no}
+use Rattle.meaning.specs.Paths.{total_to}
 use Rattle.model.specs.Loads.{total_of}
 use Rattle.model.specs.Order.{before}
-use Rattle.model.specs.Parts.{Part, parts}
+use Rattle.model.specs.Parts.{Part}
 use Rattle.model.specs.Sets.{has}
-use Rattle.model.specs.declared.kind.Kind.{Kind}
-use Rattle.meaning.specs.Cells.{Holds, tallies_back}
-use Rattle.meaning.specs.Paths.{total_to}
+use Rattle.search.specs.Seen.{kinds_in, part_in, parts_in}
+use Rattle.search.specs.declared.marks.Marks.{Marks}
 
--- The cells hold the backward marks of the kinds with these standing sets, in rows of `width` cells.
-pub record Held (admitted : ℕ → Bool) (ks : List Kind) (ss : List ℕ) (width : ℕ) (cells : List ℕ) : Type 0 where
-  pub few : length ks ≤ 32
-  pub long : length ss ≡ length ks
-  pub some : 0 < width
-  pub wide : width ≤ 4096
-  pub room : (length ks + 1) * width ≤ length cells
-  pub bound : (t : ℕ) → admitted t ≡ true → t < width
-  pub marks : Holds (tallies_back yes_no admitted (parts ks ss) width) cells
+-- the row of the first i kinds has a mark at the total b
+abbrev pub is_closed_at : Marks → ℕ → ℕ → Bool
+is_closed_at m i b = nat_lt b m.width && slice_index m.cells.now (i * m.width + b) == 1
 
-abbrev pub no_part : Part
-no_part = record { size = 0; price = 0; standing = 0 }
-
--- the count d of the part p stands, and, put onto b, meets a mark of the row that begins at `start`
-abbrev pub closes : List ℕ → ℕ → ℕ → Part → ℕ → ℕ → Bool
-closes cells start width p b d = has p.standing d && (nat_lt (b + p.size * d) width && slice_index cells (start + (b + p.size * d)) == 1)
+-- the count d of the kind at i stands, and, put onto b, can be closed by the kinds after it
+abbrev pub closes : Marks → ℕ → ℕ → ℕ → Bool
+closes m i b d = has (part_in m i).standing d && is_closed_at m (i + 1) (b + (part_in m i).size * d)
 
 -- c is, of the choices of standing counts that, added to b, give an admitted total, the first
 pub record Least (admitted : ℕ → Bool) (ps : List Part) (b : ℕ) (c : List ℕ) : Type 0 where
@@ -41,19 +31,19 @@ pub record Leads (ps : List Part) (given : List ℕ) (m t : ℕ) : Type 0 where
   pub ends : (j : ℕ) → m ≤ j → j < length ps → Stands (take j ps) (take j given) → ⊥
 
 -- the count d at place i is above the given one, and can be closed
-abbrev pub raises : List ℕ → ℕ → List Part → List ℕ → ℕ → ℕ → Bool
-raises cells width ps given i d = nat_lt (slice_index given i) d && closes cells ((i + 1) * width) width (slice_index_or ps i no_part) (total_to ps given i) d
+abbrev pub raises : Marks → List ℕ → ℕ → ℕ → Bool
+raises m given i d = nat_lt (slice_index given i) d && closes m i (total_to (parts_in m) given i) d
 
 -- no place from `from` on, with standing counts before it, can be raised
-abbrev pub NoneFrom : List ℕ → ℕ → List Part → List ℕ → ℕ → Type 0
-NoneFrom cells width ps given from = (j d : ℕ) → from ≤ j → j < length ps → d < 64 → Stands (take j ps) (take j given) → raises cells width ps given j d ≡ false
+abbrev pub NoneFrom : Marks → List ℕ → ℕ → Type 0
+NoneFrom m given from = (j d : ℕ) → from ≤ j → j < kinds_in m → d < 64 → Stands (take j (parts_in m)) (take j given) → raises m given j d ≡ false
 
 -- i is the last place that can be raised, d the least count that it can be raised to, and t the total with it
-pub record Highest (cells : List ℕ) (width : ℕ) (ps : List Part) (given : List ℕ) (i d t : ℕ) : Type 0 where
-  pub place : i < length ps
+pub record Highest (m : Marks) (given : List ℕ) (i d t : ℕ) : Type 0 where
+  pub place : i < kinds_in m
   pub count : d < 64
-  pub stands : Stands (take i ps) (take i given)
-  pub total : t ≡ total_to ps given i + (get_or ps i no_part).size * d
-  pub raised : raises cells width ps given i d ≡ true
-  pub least : (e : ℕ) → e < d → raises cells width ps given i e ≡ false
-  pub last : NoneFrom cells width ps given (i + 1)
+  pub stands : Stands (take i (parts_in m)) (take i given)
+  pub total : t ≡ total_to (parts_in m) given i + (part_in m i).size * d
+  pub raised : raises m given i d ≡ true
+  pub least : (e : ℕ) → e < d → raises m given i e ≡ false
+  pub last : NoneFrom m given (i + 1)

@@ -1,2 +1,4 @@
 pub mod Both
+pub mod Cut
 pub mod Meeting
+pub mod Row

@@ -7,10 +7,11 @@ ghost use Rattle.plan.specs.Seen.{life};
 
 use crate::branch::Branch;
 use crate::plan::Plan;
-use marking::branches::{is_full, is_latest, note, noted_by, number_after, one_fewer};
+use marking::branches::is_latest;
 use marking::counts::held_in_all;
-use marking::lent::{is_short, mark_sets};
+use marking::lent::mark_sets;
 use model::goal::Goal;
+use model::parts::Parts;
 use model::refusal::{HandedBack, Refusal};
 
 impl<G: Goal + Drop> Plan<G> {
@@ -22,28 +23,26 @@ impl<G: Goal + Drop> Plan<G> {
         if self.is_blank() {
             return Err(Refusal::WrongStage);
         }
-        if is_full(self.opened) {
+        if self.noted.is_full() {
             return Err(Refusal::BranchesFull);
         }
-        let at = self.opened;
-        note(&mut self.noted, at, self.standing);
-        self.opened = at + 1;
-        Ok(Branch::of(number_after(at)))
+        self.noted.push(self.standing);
+        Ok(Branch::of(self.noted.len() as u64))
     }
 
     // Closes the latest branch; what was ruled out stays so. Answers how many branches are still open.
-    fn keep_number(&mut self, number: u64) -> Result<u32, Refusal>
+    pub(super) fn keep_number(&mut self, number: u64) -> Result<u32, Refusal>
         ensures does { Called (life G.Goal.means self.old) (Keeping number) (life G.Goal.means self.new) (answer_of result) }
         ensures goal { self.new.goal ≡ self.old.goal }
     {
         if self.is_blank() {
             return Err(Refusal::WrongStage);
         }
-        if !is_latest(number, self.opened) {
+        if !is_latest(number, self.noted.len()) {
             return Err(Refusal::NotLatest);
         }
-        self.opened = one_fewer(self.opened);
-        Ok(self.opened as u32)
+        let _ = self.noted.pop();
+        Ok(self.noted.len() as u32)
     }
 
     // Closes the latest branch, which is given back; what was ruled out stays so. Answers how many branches are still open. A refusal hands
@@ -53,17 +52,12 @@ impl<G: Goal + Drop> Plan<G> {
         ensures back { GivenBack given result }
         ensures goal { self.new.goal ≡ self.old.goal }
     {
-        match self.keep_number(given.number()) {
-            Ok(open) => {
-                let _ = given.spend();
-                Ok(open)
-            }
-            Err(refusal) => Err(HandedBack::new(refusal, given)),
-        }
+        let answer = self.keep_number(given.number());
+        given.answered(answer)
     }
 
     // Closes the latest branch, and what stood when it opened stands again. Answers how many more counts stand.
-    fn withdraw_number(
+    pub(super) fn withdraw_number(
         &mut self,
         number: u64,
         forward: &mut [u8],
@@ -74,24 +68,24 @@ impl<G: Goal + Drop> Plan<G> {
         ensures forward { forward.new ≡ remarked (forward_marks (life G.Goal.means self.new)) (answer_of result) forward.old }
         ensures backward { backward.new ≡ remarked (backward_marks (life G.Goal.means self.new)) (answer_of result) backward.old }
     {
-        let kinds = self.case.kinds();
-        let many = kinds.len();
-        if many == 0 {
-            return Err(Refusal::WrongStage);
-        }
-        if is_short(&self.goal, kinds, forward, backward) {
-            return Err(Refusal::TooShort);
-        }
-        if !is_latest(number, self.opened) {
+        // The sets are named apart: the checker does not follow parts that a `&mut self` lends where the plan changes later.
+        let parts = self.parts_for(forward, backward)?;
+        let Parts { sets, .. } = parts;
+        let before = held_in_all(sets);
+        if !is_latest(number, self.noted.len()) {
             return Err(Refusal::NotLatest);
         }
-        let at = one_fewer(self.opened);
-        let row = noted_by(&self.noted, at);
-        mark_sets(&self.goal, kinds, &row[..many], forward, backward);
-        let before = held_in_all(&self.standing[..many]);
-        let after = held_in_all(&row[..many]);
+        let Some(row) = self.noted.pop() else {
+            unreachable!()
+        };
+        let kinds = self.case.kinds();
+        let noted = Parts {
+            kinds,
+            sets: &row[..kinds.len()],
+        };
+        mark_sets(&self.goal, noted, forward, backward);
+        let after = held_in_all(noted.sets);
         self.standing = row;
-        self.opened = at;
         Ok(after - before)
     }
 
@@ -109,12 +103,7 @@ impl<G: Goal + Drop> Plan<G> {
         ensures forward { forward.new ≡ remarked (forward_marks (life G.Goal.means self.new)) (outcome_back (λ n. n) result) forward.old }
         ensures backward { backward.new ≡ remarked (backward_marks (life G.Goal.means self.new)) (outcome_back (λ n. n) result) backward.old }
     {
-        match self.withdraw_number(given.number(), forward, backward) {
-            Ok(more) => {
-                let _ = given.spend();
-                Ok(more)
-            }
-            Err(refusal) => Err(HandedBack::new(refusal, given)),
-        }
+        let answer = self.withdraw_number(given.number(), forward, backward);
+        given.answered(answer)
     }
 }

@@ -1,44 +1,31 @@
 // Whole histories: a settle, any list of calls, and a tally.
-ghost use Rattle.std.specs.Prelude.{◌≡◌, map, length, Some};
-ghost use Rattle.model.specs.Answers.{answer_of, outcome_back};
+ghost use Rattle.std.specs.Prelude.{◌≡◌, map, min, length, Some};
+ghost use Rattle.model.specs.Answers.{answer_of};
 ghost use Rattle.model.specs.Cases.{kinds_in};
 ghost use Rattle.meaning.specs.History.{WholeHistory, marked_by, tallied_by};
 ghost use Rattle.meaning.specs.Life.{backward_marks, forward_marks, life_after, replies, Called, Remarks};
-ghost use Rattle.meaning.specs.Register.{branch as Opening, keep as Keeping};
-ghost use Rattle.plan.specs.Entries.{Untried, answers_in, asked, calls_in, calls_of, ending_of, reply_of};
+ghost use Rattle.meaning.specs.Register.{branch as Opening};
+ghost use Rattle.plan.specs.Entries.{Untried, answers_in, asked, calls_in, calls_of, ending_of};
 ghost use Rattle.plan.specs.Seen.{cells_for, life};
 
-use crate::branch::{Branch, OpenBranches};
+use crate::branch::OpenBranches;
 use crate::lived::Lived;
 use crate::plan::Plan;
-use entries::{Call, Entry, Reply};
+use entries::{Call, Cells, Entry};
 use measures::Measure;
 use model::case::Case;
 use model::goal::Goal;
-use model::refusal::{HandedBack, Refusal};
+use model::refusal::Refusal;
 
-// An answer as a value.
-fn reply(answer: Result<u32, Refusal>) -> Reply
-    ensures { reply_of result ≡ answer_of answer }
+// How long the slices of the two tables are that a call with so many cells gets.
+fn lengths(cells: Cells, forward: &[u8], backward: &[u8]) -> (usize, usize)
+    ensures forward { result.0 ≡ min cells.forward (length forward.now) }
+    ensures backward { result.1 ≡ min cells.backward (length backward.now) }
 {
-    match answer {
-        Ok(n) => Reply::Accepted(n),
-        Err(refusal) => Reply::Refused(refusal),
-    }
-}
-
-// The answer of a call that was given a branch. Where it was refused, the branch, which was made for the call, ends here.
-fn reply_of_branch(answer: Result<u32, HandedBack<Branch>>) -> Reply
-    ensures { reply_of result ≡ outcome_back (λ n. n) answer }
-{
-    match answer {
-        Ok(n) => Reply::Accepted(n),
-        Err(back) => {
-            let refusal = back.refusal();
-            let _ = back.given().spend();
-            Reply::Refused(refusal)
-        }
-    }
+    (
+        cells.forward.min(forward.len()),
+        cells.backward.min(backward.len()),
+    )
 }
 
 impl<G: Goal + Drop> Plan<G> {
@@ -47,78 +34,61 @@ impl<G: Goal + Drop> Plan<G> {
         &mut self,
         kind: u64,
         count: u64,
-        cells: (usize, usize),
+        cells: Cells,
         forward: &mut [u8],
         backward: &mut [u8],
-    ) -> Reply
-        ensures does { Called (life G.Goal.means self.old) (asked (length forward.old) (length backward.old) (Call.RuleOut kind count cells.0 cells.1)) (life G.Goal.means self.new) (reply_of result) }
+    ) -> Result<u32, Refusal>
+        ensures does { Called (life G.Goal.means self.old) (asked (length forward.old) (length backward.old) (Call.RuleOut kind count cells)) (life G.Goal.means self.new) (answer_of result) }
         ensures goal { self.new.goal ≡ self.old.goal }
         ensures forward { Remarks (forward_marks (life G.Goal.means self.old)) (forward_marks (life G.Goal.means self.new)) forward.old forward.new }
         ensures backward { Remarks (backward_marks (life G.Goal.means self.old)) (backward_marks (life G.Goal.means self.new)) backward.old backward.new }
     {
-        let f = cells.0.min(forward.len());
-        let b = cells.1.min(backward.len());
-        reply(self.rule_out(kind, count, &mut forward[..f], &mut backward[..b]))
+        let (f, b) = lengths(cells, forward, backward);
+        self.rule_out(kind, count, &mut forward[..f], &mut backward[..b])
     }
 
     // Withdraws the branch of a number, with so many cells of the tables.
     fn make_withdraw(
         &mut self,
         number: u64,
-        cells: (usize, usize),
+        cells: Cells,
         forward: &mut [u8],
         backward: &mut [u8],
-    ) -> Reply
-        ensures does { Called (life G.Goal.means self.old) (asked (length forward.old) (length backward.old) (Call.Withdraw number cells.0 cells.1)) (life G.Goal.means self.new) (reply_of result) }
+    ) -> Result<u32, Refusal>
+        ensures does { Called (life G.Goal.means self.old) (asked (length forward.old) (length backward.old) (Call.Withdraw number cells)) (life G.Goal.means self.new) (answer_of result) }
         ensures goal { self.new.goal ≡ self.old.goal }
         ensures forward { Remarks (forward_marks (life G.Goal.means self.old)) (forward_marks (life G.Goal.means self.new)) forward.old forward.new }
         ensures backward { Remarks (backward_marks (life G.Goal.means self.old)) (backward_marks (life G.Goal.means self.new)) backward.old backward.new }
     {
-        let f = cells.0.min(forward.len());
-        let b = cells.1.min(backward.len());
-        reply_of_branch(self.withdraw(Branch::of(number), &mut forward[..f], &mut backward[..b]))
+        let (f, b) = lengths(cells, forward, backward);
+        self.withdraw_number(number, &mut forward[..f], &mut backward[..b])
     }
 
     // Opens a branch; the plan knows it by its number.
-    fn make_branch(&mut self) -> Reply
-        ensures does { Called (life G.Goal.means self.old) Opening (life G.Goal.means self.new) (reply_of result) }
+    fn make_branch(&mut self) -> Result<u32, Refusal>
+        ensures does { Called (life G.Goal.means self.old) Opening (life G.Goal.means self.new) (answer_of result) }
         ensures goal { self.new.goal ≡ self.old.goal }
     {
-        match self.branch() {
-            Ok(opened) => Reply::Accepted(opened.spend() as u32),
-            Err(refusal) => Reply::Refused(refusal),
-        }
-    }
-
-    // Keeps the branch of a number.
-    fn make_keep(&mut self, number: u64) -> Reply
-        ensures does { Called (life G.Goal.means self.old) (Keeping number) (life G.Goal.means self.new) (reply_of result) }
-        ensures goal { self.new.goal ≡ self.old.goal }
-    {
-        reply_of_branch(self.keep(Branch::of(number)))
+        let opened = self.branch()?;
+        Ok(opened.spend() as u32)
     }
 
     // Makes one call. Tables that held the plan's marks hold them again.
-    fn make(&mut self, call: Call, forward: &mut [u8], backward: &mut [u8]) -> Reply
-        ensures does { Called (life G.Goal.means self.old) (asked (length forward.old) (length backward.old) call) (life G.Goal.means self.new) (reply_of result) }
+    fn make(&mut self, call: Call, forward: &mut [u8], backward: &mut [u8]) -> Result<u32, Refusal>
+        ensures does { Called (life G.Goal.means self.old) (asked (length forward.old) (length backward.old) call) (life G.Goal.means self.new) (answer_of result) }
         ensures goal { self.new.goal ≡ self.old.goal }
         ensures forward { Remarks (forward_marks (life G.Goal.means self.old)) (forward_marks (life G.Goal.means self.new)) forward.old forward.new }
         ensures backward { Remarks (backward_marks (life G.Goal.means self.old)) (backward_marks (life G.Goal.means self.new)) backward.old backward.new }
     {
         match call {
-            Call::RuleOut {
-                kind,
-                count,
-                forward: f,
-                backward: b,
-            } => self.make_rule_out(kind, count, (f, b), forward, backward),
+            Call::RuleOut { kind, count, cells } => {
+                self.make_rule_out(kind, count, cells, forward, backward)
+            }
             Call::Branch => self.make_branch(),
-            Call::Keep { number } => self.make_keep(number),
-            Call::Withdraw {
-                number,
-                forward: f,
-                backward: b,
-            } => self.make_withdraw(number, (f, b), forward, backward),
+            Call::Keep { number } => self.keep_number(number),
+            Call::Withdraw { number, cells } => {
+                self.make_withdraw(number, cells, forward, backward)
+            }
         }
     }
 
@@ -131,10 +101,9 @@ impl<G: Goal + Drop> Plan<G> {
         ensures forward { Remarks (forward_marks (life G.Goal.means self.old)) (forward_marks (life G.Goal.means self.new)) forward.old forward.new }
         ensures backward { Remarks (backward_marks (life G.Goal.means self.old)) (backward_marks (life G.Goal.means self.new)) backward.old backward.new }
     {
-        for i in 0..entries.len() {
-            let entry = entries[i];
-            let said = self.make(entry.call(), forward, backward);
-            entries[i] = entry.answered(said);
+        for entry in entries.iter_mut() {
+            let answer = self.make(entry.call(), forward, backward);
+            *entry = entry.answered(answer);
         }
     }
 
@@ -161,7 +130,7 @@ impl<G: Goal + Drop> Plan<G> {
         Ok(Lived {
             counts,
             tally,
-            branches: OpenBranches::of(self.opened),
+            branches: OpenBranches::of(self.noted.len()),
         })
     }
 }

@@ -7,8 +7,9 @@ ghost use Rattle.plan.specs.Seen.{life};
 
 use crate::plan::Plan;
 use marking::counts::{held_in_all, in_range};
-use marking::lent::{is_short, mark_without};
+use marking::lent::mark_without;
 use model::goal::Goal;
+use model::parts::Parts;
 use model::refusal::Refusal;
 use model::sets::contains;
 
@@ -26,37 +27,23 @@ impl<G: Goal + Drop> Plan<G> {
         ensures forward { forward.new ≡ marked (forward_marks (life G.Goal.means self.new)) (answer_of result) forward.old }
         ensures backward { backward.new ≡ marked (backward_marks (life G.Goal.means self.new)) (answer_of result) backward.old }
     {
-        let kinds = self.case.kinds();
-        let many = kinds.len();
-        if many == 0 {
-            return Err(Refusal::WrongStage);
-        }
-        if is_short(&self.goal, kinds, forward, backward) {
-            return Err(Refusal::TooShort);
-        }
-        if !in_range(kind, count, many) {
+        // The slices are named apart: the checker does not follow parts that a `&mut self` lends and that are passed on whole.
+        let parts = self.parts_for(forward, backward)?;
+        let Parts { kinds, sets } = parts;
+        if !in_range(kind, count, kinds.len()) {
             return Err(Refusal::OutOfRange);
         }
         let at = kind as usize - 1;
-        if !contains(self.standing[at], count) {
+        if !contains(sets[at], count) {
             return Err(Refusal::NotStanding);
         }
-        match mark_without(
-            &self.goal,
-            kinds,
-            &self.standing,
-            at,
-            count,
-            forward,
-            backward,
-        ) {
-            None => Err(Refusal::NoLoad),
-            Some(next) => {
-                let before = held_in_all(&self.standing[..many]);
-                let after = held_in_all(&next[..many]);
-                self.standing = next;
-                Ok(before - after)
-            }
-        }
+        let standing = Parts { kinds, sets };
+        let Some(next) = mark_without(&self.goal, standing, at, count, forward, backward) else {
+            return Err(Refusal::NoLoad);
+        };
+        let before = held_in_all(sets);
+        let after = held_in_all(&next[..sets.len()]);
+        self.standing = next;
+        Ok(before - after)
     }
 }

@@ -6,10 +6,12 @@ ghost use Rattle.meaning.specs.Life.{backward_marks, blank as Blank, forward_mar
 ghost use Rattle.plan.specs.Seen.{cells_for, life};
 
 use crate::plan::Plan;
+use fixed_list::FixedList;
 use marking::counts::{allowed_sets, held_in_all};
 use marking::lent::{is_short, mark_first};
 use model::case::Case;
 use model::goal::Goal;
+use model::parts::Parts;
 use model::refusal::Refusal;
 
 impl<G: Goal + Drop> Plan<G> {
@@ -22,16 +24,15 @@ impl<G: Goal + Drop> Plan<G> {
             goal,
             case: Case::new(),
             standing: [0; 32],
-            noted: [[0; 32]; 8],
-            opened: 0,
+            noted: FixedList::new([0; 32]),
         }
     }
 
     // Whether the plan is yet to be settled.
     pub fn is_blank(&self) -> bool
-        ensures { result ≡ (self.now.case.many == 0) }
+        ensures { result ≡ (self.now.case.kinds.many == 0) }
     {
-        self.case.kinds().len() == 0
+        self.case.kinds().is_empty()
     }
 
     // The goal that the plan was made over.
@@ -57,23 +58,24 @@ impl<G: Goal + Drop> Plan<G> {
             return Err(Refusal::WrongStage);
         }
         let kinds = case.kinds();
-        let many = kinds.len();
-        if many == 0 {
+        if kinds.is_empty() {
             return Err(Refusal::NoKind);
         }
         if is_short(&self.goal, kinds, forward, backward) {
             return Err(Refusal::TooShort);
         }
+        let many = kinds.len();
         let allowed = allowed_sets(kinds);
-        match mark_first(&self.goal, kinds, &allowed[..many], forward, backward) {
-            None => Err(Refusal::NoLoad),
-            Some(next) => {
-                let copied = *case;
-                self.case = copied;
-                self.standing = next;
-                self.opened = 0;
-                Ok(held_in_all(&next[..many]))
-            }
-        }
+        let parts = Parts {
+            kinds,
+            sets: &allowed[..many],
+        };
+        let Some(next) = mark_first(&self.goal, parts, forward, backward) else {
+            return Err(Refusal::NoLoad);
+        };
+        self.case = *case;
+        self.standing = next;
+        self.noted.clear();
+        Ok(held_in_all(&next[..many]))
     }
 }

@@ -20,14 +20,11 @@ impl<G: Goal + Drop> Plan<G> {
         ensures tells { Standing (life G.Goal.means self.now) kind (answer_of result) }
         ensures same { self.exit.now ≡ self.entry.now }
     {
-        let many = self.case.kinds().len();
-        if many == 0 {
-            return Err(Refusal::WrongStage);
-        }
-        if !is_kind(kind, many) {
+        let parts = self.parts()?;
+        if !is_kind(kind, parts.kinds.len()) {
             return Err(Refusal::OutOfRange);
         }
-        Ok(self.standing[kind as usize - 1])
+        Ok(parts.sets[kind as usize - 1])
     }
 
     // The tally of the fitting loads of standing counts. Place (i, b) of the values then holds the tally of the choices of standing
@@ -36,15 +33,11 @@ impl<G: Goal + Drop> Plan<G> {
         ensures tells { Tallied M.Measure.means (life G.Goal.means self.now) values.old values.new (outcome_as (λ v. v) result) }
         ensures same { self.exit.now ≡ self.entry.now }
     {
-        let kinds = self.case.kinds();
-        let many = kinds.len();
-        if many == 0 {
-            return Err(Refusal::WrongStage);
-        }
-        if is_short_of(&self.goal, kinds, values.len()) {
+        let parts = self.parts()?;
+        if is_short_of(&self.goal, parts.kinds, values.len()) {
             return Err(Refusal::TooShort);
         }
         let mut table = Table::new(values, width_of(&self.goal));
-        Ok(tally_loads::<M, G>(&mut table, &self.goal, kinds, &self.standing[..many]))
+        Ok(tally_loads::<M, G>(&mut table, &self.goal, parts))
     }
 }

@@ -6,11 +6,9 @@ use Rattle.tables.proofs.table.forward.Goals as goal
 
 pub returns : goal.returns
 returns g c =
-    let ks = c.args.kinds.now in
-    let ss = c.args.sets.now in
+    let ks = c.args.parts.kinds.now in
+    let ss = c.args.parts.sets.now in
     record {
-      cells = tallied g.M.Measure.means g.met.M.Measure.lawful (parts ks ss) (cheap_parts ks ss) c.args.table.now.width (length ks) _ _ c.requires.pos (length_parts ks ss c.requires.same) c.fill.auto.cells c.requires.room c.fill.ensures;
-      width = refl;
-      long = c.fill.auto.cells;
-      name = refl;
+      cells = tallied g.M.Measure.means g.met.M.Measure.lawful (parts ks ss) (cheap_parts ks ss) c.args.table.now.width (length ks) _ _ c.requires.pos (length_parts ks ss c.args.parts.same) c.fill.auto.cells c.requires.room c.fill.ensures;
+      rows = record { width = refl; long = c.fill.auto.cells; name = refl };
     }

@@ -1,4 +1,5 @@
 use Rattle.std.proofs.Common.{◌≡◌, ℕ, List, map, length, Some, ap, ◌∙◌, ap₂}
+use Rattle.fixed_list.specs.FixedLists.{in_use}
 use Rattle.model.specs.Answers.{accepted, outcome_as}
 use Rattle.model.specs.Cases.{kinds_in}
 use Rattle.meaning.specs.Life.{Settled, life_after, open_in, replies}
@@ -8,8 +9,8 @@ use Rattle.plan.specs.Entries.{answers_in, calls_in}
 use Rattle.plan.specs.Seen.{life}
 use Rattle.plan.proofs.plan.Plan.history.Goals as goal
 
-pub returns : goal.returns
-returns g c =
+pub returns-clause-tells : goal.returns-clause-tells
+returns-clause-tells g c =
     let means = g.G.Goal.means in
     let m = g.M.Measure.means in
     let p = c.args.self.now in
@@ -31,13 +32,6 @@ returns g c =
     let said : answers_in c.make_all.new.entries ≡ map Some (replies first xs) = c.make_all.ensures.answers ∙ ap (λ (ys : List Call). map Some (replies first ys)) same in
     let lives-on = still_lives before kinds f b n xs first last settled.life settled.answer goes in
     let many : c.of.result.many ≡ open_in last =
-    c.of.ensures ∙ opened_are (means q.goal) q.case.many q.case.kinds q.standing q.noted q.opened _ _ lives-on in
-    record {
-      tells = history_lived m before kinds f b xs (length c.args.values.now) first last (answers_in c.make_all.new.entries) n (outcome_as (λ v. v) c.tally-tally.result) c.of.result.many
-          settled.life settled.answer goes said c.tally-tally.ensures.tells.answer many;
-      goal = c.make_all.ensures.goal ∙ c.in_ok-counts.ensures.goal;
-      entries = c.make_all.ensures.calls;
-      values = c.tally-tally.ensures.tells.cells;
-      forward = c.make_all.ensures.forward forward c.in_ok-counts.ensures.forward;
-      backward = c.make_all.ensures.backward backward c.in_ok-counts.ensures.backward;
-    }
+    c.of.ensures ∙ c.len.ensures.many ∙ opened_are (means q.goal) q.case.kinds.many q.case.kinds.items q.standing (in_use q.noted) (length (in_use q.noted)) _ _ lives-on in
+    history_lived m before kinds f b xs (length c.args.values.now) first last (answers_in c.make_all.new.entries) n (outcome_as (λ v. v) c.tally-tally.result) c.of.result.many
+    settled.life settled.answer goes said c.tally-tally.ensures.tells.answer many

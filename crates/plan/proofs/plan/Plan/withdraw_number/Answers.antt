@@ -1,112 +1,81 @@
-use Rattle.std.proofs.Common.{◌≡◌, ℕ, ◌+◌, ◌-◌, ◌<◌, ◌≤◌, true, false, List, [], length, get_or, take, sym, refl, ap, ◌∙◌, subst, arith, rules}
+use Rattle.std.proofs.Common.{◌≡◌, ℕ, ◌≤◌, List, length, take, Err, Result, sym, ap, ◌∙◌, subst, arith, rules}
+use Rattle.fixed_list.specs.FixedLists.{in_use}
+use Rattle.model.specs.Answers.{refused, answer_of}
+use Rattle.model.specs.Refusals.{number_of}
 use Rattle.model.specs.declared.kind.Kind.{Kind}
-use Rattle.model.specs.Answers.{accepted, refused}
-use Rattle.model.specs.Parts.{parts}
+use Rattle.model.specs.declared.refusal.Refusal.{Refusal}
 use Rattle.model.specs.Sets.{held_in_all}
-use Rattle.meaning.specs.Cells.{over, tallies, tallies_back}
-use Rattle.meaning.specs.Models.{yes_no}
-use Rattle.meaning.specs.Problems.{problem, short}
-use Rattle.meaning.specs.Register.{withdraw}
 use Rattle.meaning.specs.Life.{Called}
-use Rattle.meaning.specs.View.{life_of, problem_of}
+use Rattle.meaning.specs.Register.{withdraw}
+use Rattle.meaning.specs.View.{problem_of}
 use Rattle.meaning.proofs.Lists.{long_take}
 use Rattle.meaning.proofs.PlanBranching as Branching
-use Rattle.meaning.proofs.PlanFields.{called_live, ahead_marks, back_marks}
+use Rattle.meaning.proofs.PlanFields.{called_live}
+use Rattle.plan.specs.Seen.{life}
+use Rattle.plan.specs.declared.plan.Plan.{Plan}
+use Rattle.plan.proofs.Noted.{Within, no_fewer, withdraw_goes, within_back}
+use Rattle.plan.proofs.Opening.{readied, withdraw_closed}
 use Rattle.plan.proofs.plan.Plan.withdraw_number.Goals as goal
 
-pub returns-then-is_short : goal.returns-then-is_short
-returns-then-is_short g c =
-    let p = c.args.self.now in
-    let t = g.G.Goal.means p.goal in
-    let n = p.case.many in
-    let some : 0 < n = search rules in
+pub returns-in_err-parts-clause-does : goal.returns-in_err-parts-clause-does
+returns-in_err-parts-clause-does g c =
+    let l = life g.G.Goal.means c.args.self.now in
     let f = length c.args.forward.now in
     let b = length c.args.backward.now in
-    let Short : List Kind → Type 0 = λ xs. short (problem t xs) f b ≡ true in
-    record {
-      does = called_live t p.case.kinds n p.standing p.standing p.noted p.noted p.opened p.opened (withdraw c.args.number f b) (refused 7) some
-          (Branching.withdraw_short (problem_of t n p.case.kinds) n p.standing p.noted f b p.opened c.args.number (subst Short c.kinds-kinds.ensures (sym c.is_short.ensures ∙ c.if-is_short.true)));
-      goal = refl;
-      forward = refl;
-      backward = refl;
-    }
+    let e = c.in_err-parts.field-0.0 in
+    let is : c.from_residual.result ≡ Err e = search rules in
+    let Closed : Result ℕ Refusal → Type 0 = λ r. Called l (withdraw c.args.number f b) l (answer_of r) in
+    subst Closed (sym is) (withdraw_closed l c.args.number f b (number_of e) c.in_err-parts.ensures)
 
-pub returns-then-not-is_latest : goal.returns-then-not-is_latest
-returns-then-not-is_latest g c =
+pub returns-then-not-is_latest-clause-does : goal.returns-then-not-is_latest-clause-does
+returns-then-not-is_latest-clause-does g c =
     let p = c.args.self.now in
     let t = g.G.Goal.means p.goal in
-    let n = p.case.many in
-    let some : 0 < n = search rules in
+    let n = p.case.kinds.many in
+    let kinds = p.case.kinds.items in
+    let rows = in_use p.noted in
+    let k = length rows in
     let f = length c.args.forward.now in
     let b = length c.args.backward.now in
-    let Short : List Kind → Type 0 = λ xs. short (problem t xs) f b ≡ false in
-    record {
-      does = called_live t p.case.kinds n p.standing p.standing p.noted p.noted p.opened p.opened (withdraw c.args.number f b) (refused 13) some
-          (Branching.withdraw_other (problem_of t n p.case.kinds) n p.standing p.noted f b p.opened c.args.number (subst Short c.kinds-kinds.ensures (sym c.is_short.ensures ∙ c.if-is_short.false)) (c.is_latest.ensures.no c.if-not-is_latest.true));
-      goal = refl;
-      forward = refl;
-      backward = refl;
-    }
+    let r = readied g.G.Goal.means p c.in_ok-parts.parts f b c.in_ok-parts.ensures in
+    called_live t kinds n p.standing p.standing rows rows k k (withdraw c.args.number f b) (refused 13) r.begun.some
+    (Branching.withdraw_other (problem_of t n kinds) n p.standing rows f b k c.args.number r.room_of (λ e. c.is_latest.ensures.no c.if-not-is_latest.true (e ∙ sym c.len.ensures.many)))
+
+-- the plan has as many kinds as it reads
+kinds_long : {G : Type 0} (p : Plan G) {ks : List Kind} → ks ≡ take p.case.kinds.many p.case.kinds.items → length ks ≡ p.case.kinds.many
+kinds_long p are = ap length are ∙ long_take p.case.kinds.many p.case.kinds.items (omega (arith, p.case.kinds.few, p.case.kinds.long))
 
 pub invariant_of-self-2 : goal.invariant_of-self-2
 invariant_of-self-2 g c =
     let p = c.args.self.now in
-    let at = c.is_latest.ensures.yes c.if-not-is_latest.false in
-    let real : 1 ≤ c.args.number = at.0 in
-    let is : c.args.number ≡ p.opened = at.1 in
-    let m = c.one_fewer-at.result in
-    let less : m < p.opened = omega (arith, c.one_fewer-at.ensures) in
-    record { full = c.noted_by-row.ensures.long; deep = omega (arith, p.deep); inside = Branching.inside_back p.case.many p.standing c.noted_by-row.result p.noted p.opened m less c.noted_by-row.ensures.same p.inside }
+    let n = p.case.kinds.many in
+    let row = c.in-Some.row in
+    let long : length row ≡ 32 = search rules in
+    record { full = long; inside = within_back n p.standing row (in_use c.pop.new.self) (subst (Within n p.standing) c.in-Some.ensures p.inside) }
 
 pub overflow_sub-result : goal.overflow_sub-result
 overflow_sub-result g c =
     let p = c.args.self.now in
-    let n = p.case.many in
-    let kinds = p.case.kinds in
-    let at = c.is_latest.ensures.yes c.if-not-is_latest.false in
-    let real : 1 ≤ c.args.number = at.0 in
-    let is : c.args.number ≡ p.opened = at.1 in
-    let ks = c.kinds-kinds.result.now in
-    let same : length ks ≡ n = ap length c.kinds-kinds.ensures ∙ long_take n kinds (omega (arith, p.case.few, p.case.whole)) in
-    let h : held_in_all (take n p.standing) ≤ held_in_all (take n c.noted_by-row.result)
-    = Branching.no_fewer n p.standing c.noted_by-row.result p.noted p.opened c.one_fewer-at.result (omega (arith, c.one_fewer-at.ensures)) c.noted_by-row.ensures.same p.inside in
-    let before : c.held_in_all-before.result ≡ held_in_all (take n p.standing) = c.held_in_all-before.ensures ∙ ap (λ m. held_in_all (take m p.standing)) same in
-    let later : c.held_in_all-after.result ≡ held_in_all (take n c.noted_by-row.result) = c.held_in_all-after.ensures ∙ ap (λ m. held_in_all (take m c.noted_by-row.result)) same in
+    let n = p.case.kinds.many in
+    let row = c.in-Some.row in
+    let r = readied g.G.Goal.means p c.in_ok-parts.parts (length c.args.forward.now) (length c.args.backward.now) c.in_ok-parts.ensures in
+    let h : held_in_all (take n p.standing) ≤ held_in_all (take n row) = no_fewer n p.standing row (in_use c.pop.new.self) (subst (Within n p.standing) c.in-Some.ensures p.inside) in
+    let before : c.held_in_all-before.result ≡ held_in_all (take n p.standing) = c.held_in_all-before.ensures ∙ ap held_in_all r.begun.sets_are in
+    let later : c.held_in_all-after.result ≡ held_in_all (take n row) = c.held_in_all-after.ensures ∙ ap (λ m. held_in_all (take m row)) (kinds_long p c.kinds-kinds.ensures) in
     omega (arith, h, before, later)
 
-pub returns : goal.returns
-returns g c =
+pub returns-clause-does : goal.returns-clause-does
+returns-clause-does g c =
     let p = c.args.self.now in
     let t = g.G.Goal.means p.goal in
-    let n = p.case.many in
-    let kinds = p.case.kinds in
-    let some : 0 < n = search rules in
+    let n = p.case.kinds.many in
+    let kinds = p.case.kinds.items in
     let f = length c.args.forward.now in
     let b = length c.args.backward.now in
-    let row = c.noted_by-row.result in
-    let ks = c.kinds-kinds.result.now in
-    let are : ks ≡ take n kinds = c.kinds-kinds.ensures in
-    let long : length (take n kinds) ≡ n = long_take n kinds (omega (arith, p.case.few, p.case.whole)) in
-    let same : length ks ≡ n = ap length are ∙ long in
-    let Short : List Kind → Type 0 = λ xs. short (problem t xs) f b ≡ false in
+    let row = c.in-Some.row in
+    let r = readied g.G.Goal.means p c.in_ok-parts.parts f b c.in_ok-parts.ensures in
     let at = c.is_latest.ensures.yes c.if-not-is_latest.false in
-    let before : c.held_in_all-before.result ≡ held_in_all (take n p.standing) = c.held_in_all-before.ensures ∙ ap (λ m. held_in_all (take m p.standing)) same in
-    let later : c.held_in_all-after.result ≡ held_in_all (take n row) = c.held_in_all-after.ensures ∙ ap (λ m. held_in_all (take m row)) same in
-    let made : parts ks (take (length ks) row) ≡ parts (take n kinds) (take n row) =
-    ap (λ xs. parts xs (take (length xs) row)) are ∙ ap (λ m. parts (take n kinds) (take m row)) long in
-    let m = c.one_fewer-at.result in
-    let down : m ≡ p.opened - 1 = c.one_fewer-at.ensures in
-    let noted : row ≡ get_or p.noted (p.opened - 1) [] = c.noted_by-row.ensures.same ∙ ap (λ k. get_or p.noted k []) down in
-    let a = accepted (c.held_in_all-after.result - c.held_in_all-before.result) in
-    let Open : ℕ → Type 0 = λ k. Called (life_of t n kinds p.standing p.noted p.opened) (withdraw c.args.number f b) (life_of t n kinds row p.noted k) a in
-    record {
-      does = subst Open (sym down)
-          (called_live t kinds n p.standing row p.noted p.noted p.opened (p.opened - 1) (withdraw c.args.number f b) a some
-          (Branching.withdraw_closes (problem_of t n kinds) n p.standing p.noted f b p.opened c.args.number c.held_in_all-before.result c.held_in_all-after.result row
-          (subst Short are (sym c.is_short.ensures ∙ c.if-is_short.false)) at.0 at.1 noted before later));
-      goal = refl;
-      forward = c.mark_sets.ensures.forward ∙ ap (λ qs. over (tallies yes_no qs (t.top + 1)) c.args.forward.now) made
-          ∙ ap (λ xs. over xs c.args.forward.now) (sym (ahead_marks t n kinds row p.noted m some));
-      backward = c.mark_sets.ensures.backward ∙ ap (λ qs. over (tallies_back yes_no t.admits qs (t.top + 1)) c.args.backward.now) made
-          ∙ ap (λ xs. over xs c.args.backward.now) (sym (back_marks t n kinds row p.noted m some));
-    }
+    let before : c.held_in_all-before.result ≡ held_in_all (take n p.standing) = c.held_in_all-before.ensures ∙ ap held_in_all r.begun.sets_are in
+    let later : c.held_in_all-after.result ≡ held_in_all (take n row) = c.held_in_all-after.ensures ∙ ap (λ m. held_in_all (take m row)) (kinds_long p c.kinds-kinds.ensures) in
+    withdraw_goes t n kinds p.standing r.begun.some (in_use p.noted) (in_use c.pop.new.self) row c.args.number f b c.held_in_all-before.result c.held_in_all-after.result
+    c.in-Some.ensures at.0 (at.1 ∙ c.len.ensures.many) r.room_of before later
