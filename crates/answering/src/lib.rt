@@ -12,6 +12,9 @@ use report::lines::RuledLine;
 use sequence::ruled::Ruled;
 use std::fmt;
 
+// The tables and the slices of values that are lent to the plan have so many cells.
+pub(crate) const CELLS: usize = 4096;
+
 // One line for each rule-out.
 fn write_rows<W: fmt::Write>(out: &mut W, rows: &[Ruled]) -> fmt::Result {
     for row in rows {
@@ -26,18 +29,16 @@ fn write_fault<W: fmt::Write>(out: &mut W, fault: FileFault) -> fmt::Result {
     writeln!(out, "{fault}")
 }
 
-// Reads the file with tables of 4,096 cells and writes the answer. Nothing is written before the whole file has been read.
+// Reads the file with tables of `CELLS` cells and writes the answer. Nothing is written before the whole file has been read.
 pub fn write_answer<W: fmt::Write>(file: &[u8], out: &mut W) -> fmt::Result {
     let mut reader = Reader::new();
     let mut answers = Answers::new();
-    let mut forward = [0u8; 4096];
-    let mut backward = [0u8; 4096];
+    let mut forward = [0; CELLS];
+    let mut backward = [0; CELLS];
     if let Err(fault) = run(file, &mut reader, &mut forward, &mut backward, &mut answers) {
         return write_fault(out, fault);
     }
     write_rows(out, answers.as_slice())?;
-    match reader.plan() {
-        Some(plan) => write_plan(out, reader.case(), plan, &mut forward, &mut backward),
-        None => Err(fmt::Error),
-    }
+    let plan = reader.plan().ok_or(fmt::Error)?;
+    write_plan(out, reader.case(), plan, &mut forward, &mut backward)
 }

@@ -1,49 +1,53 @@
 // The lines of a settled plan. A plan that a file was read into refuses none of these calls; were one refused, nothing more would be written.
+use crate::CELLS;
 use measures::loads::Loads;
 use measures::prices::{Highest, Lowest};
 use model::case::Case;
 use model::goal::Goal;
+use model::limits::MOST_KINDS;
+use model::refusal::Refusal;
 use plan::plan::Plan;
 use reader::goal::FileGoal;
-use report::lines::{FirstLine, HighestLine, KindLine, LoadsLine, LowestLine, PlanLine};
+use report::lines::{FirstLine, KindLine, PlanLine, Tally, TallyLine};
 use std::fmt;
 
+// What was answered; a refusal ends the writing.
+fn accepted<T>(answer: Result<T, Refusal>) -> Result<T, fmt::Error> {
+    answer.map_err(|_| fmt::Error)
+}
+
 // One line for each kind: its standing counts.
-fn write_kinds<W: fmt::Write>(out: &mut W, many: usize, plan: &Plan<FileGoal>) -> fmt::Result {
-    for place in 0..many {
-        let kind = (place as u64).saturating_add(1);
-        let Ok(set) = plan.standing(kind) else {
-            return Err(fmt::Error);
-        };
+fn write_kinds<W: fmt::Write>(out: &mut W, many: u64, plan: &Plan<FileGoal>) -> fmt::Result {
+    for kind in 1..=many {
+        let set = accepted(plan.standing(kind))?;
         let line = KindLine { kind, set };
         writeln!(out, "{line}")?;
     }
     Ok(())
 }
 
-// The number of loads.
-fn write_loads<W: fmt::Write>(out: &mut W, plan: &Plan<FileGoal>) -> fmt::Result {
-    let mut values = [0u32; 4096];
-    let Ok(loads) = plan.tally::<Loads>(&mut values) else {
-        return Err(fmt::Error);
-    };
-    let line = LoadsLine(loads);
+// One tally; a price that no load has ends the writing.
+fn write_tally<W: fmt::Write>(
+    out: &mut W,
+    what: Tally,
+    answer: Result<Option<u32>, Refusal>,
+) -> fmt::Result {
+    let value = accepted(answer)?.ok_or(fmt::Error)?;
+    let line = TallyLine { what, value };
     writeln!(out, "{line}")
 }
 
-// The lowest price and the highest.
-fn write_prices<W: fmt::Write>(out: &mut W, plan: &Plan<FileGoal>) -> fmt::Result {
-    let mut values: [Option<u32>; 4096] = [None; 4096];
-    let Ok(Some(price)) = plan.tally::<Lowest>(&mut values) else {
-        return Err(fmt::Error);
-    };
-    let line = LowestLine(price);
-    writeln!(out, "{line}")?;
-    let Ok(Some(price)) = plan.tally::<Highest>(&mut values) else {
-        return Err(fmt::Error);
-    };
-    let line = HighestLine(price);
-    writeln!(out, "{line}")
+// The number of loads, the lowest price and the highest.
+fn write_tallies<W: fmt::Write>(out: &mut W, plan: &Plan<FileGoal>) -> fmt::Result {
+    let mut numbers = [0; CELLS];
+    let mut prices = [None; CELLS];
+    write_tally(
+        out,
+        Tally::Loads,
+        plan.tally::<Loads>(&mut numbers).map(Some),
+    )?;
+    write_tally(out, Tally::Lowest, plan.tally::<Lowest>(&mut prices))?;
+    write_tally(out, Tally::Highest, plan.tally::<Highest>(&mut prices))
 }
 
 // The first load.
@@ -54,11 +58,9 @@ fn write_first<W: fmt::Write>(
     forward: &mut [u8],
     backward: &mut [u8],
 ) -> fmt::Result {
-    let mut counts = [0u8; 32];
-    let load = &mut counts[..many.min(32)];
-    if plan.first_load(load, forward, backward).is_err() {
-        return Err(fmt::Error);
-    }
+    let mut counts = [0; MOST_KINDS];
+    let load = &mut counts[..many.min(MOST_KINDS)];
+    accepted(plan.first_load(load, forward, backward))?;
     let line = FirstLine(load);
     writeln!(out, "{line}")
 }
@@ -72,13 +74,13 @@ pub(crate) fn write_plan<W: fmt::Write>(
     backward: &mut [u8],
 ) -> fmt::Result {
     let many = case.kinds().len();
+    let kinds = many as u64;
     let line = PlanLine {
-        kinds: many as u64,
+        kinds,
         top: plan.goal().top(),
     };
     writeln!(out, "{line}")?;
-    write_kinds(out, many, plan)?;
-    write_loads(out, plan)?;
-    write_prices(out, plan)?;
+    write_kinds(out, kinds, plan)?;
+    write_tallies(out, plan)?;
     write_first(out, many, plan, forward, backward)
 }

@@ -4,7 +4,7 @@ use Rattle.model.specs.declared.refusal.Refusal.{Refusal}
 use Rattle.model.specs.Answers.{Answer, accepted, answer_of, refused}
 use Rattle.model.specs.Refusals.{number_of}
 use Rattle.faults.specs.Faults.{Fault, told}
-use Rattle.faults.specs.declared.plan_fault.PlanFault.{PlanFault}
+use Rattle.fields.specs.declared.placed.Placed.{Placed}
 use Rattle.faults.specs.declared.fault.FileFault.{FileFault}
 use Rattle.sequence.specs.declared.phase.Phase.{Phase}
 use Rattle.sequence.specs.declared.ruled.Ruled.{Ruled}
@@ -12,9 +12,9 @@ use Rattle.sequence.specs.Running.{Turn, goal_place, goes, stops}
 use Rattle.reader.specs.Holding.{Holding}
 
 -- an operation's answer at its place in the file
-abbrev pub placed : ℕ → Result ℕ Refusal → Result ℕ PlanFault
+abbrev pub placed : ℕ → Result ℕ Refusal → Result ℕ (Placed Refusal)
 placed p (Ok n) = Ok n
-placed p (Err e) = Err (record { place = p; refusal = e })
+placed p (Err e) = Err (record { place = p; cause = e })
 
 -- what is held afterwards, and the answer, are those given
 pub record Did (after : Holding) (r : Result ℕ Refusal) (x : Holding × Answer) : Type 0 where
@@ -22,17 +22,17 @@ pub record Did (after : Holding) (r : Result ℕ Refusal) (x : Holding × Answer
   pub answer : answer_of r ≡ x.1
 
 -- settle's answer, where it was owed; a refusal has the goal's place
-abbrev pub answer_at : Result ℕ PlanFault → Answer
+abbrev pub answer_at : Result ℕ (Placed Refusal) → Answer
 answer_at (Ok n) = accepted n
-answer_at (Err f) = refused (number_of f.refusal)
+answer_at (Err f) = refused (number_of f.cause)
 
 -- the place of a refusal
-abbrev pub At : ℕ → Result ℕ PlanFault → Type 0
+abbrev pub At : ℕ → Result ℕ (Placed Refusal) → Type 0
 At p (Ok n) = Unit {0}
 At p (Err f) = f.place ≡ p
 
 -- what is held after a settle that was owed, its answer and its place
-pub record SettledAt (g : Option ℕ) (after : Holding) (r : Result ℕ PlanFault) (x : Holding × Answer) : Type 0 where
+pub record SettledAt (g : Option ℕ) (after : Holding) (r : Result ℕ (Placed Refusal)) (x : Holding × Answer) : Type 0 where
   pub state : after ≡ x.0
   pub answer : answer_at r ≡ x.1
   pub place : At (goal_place g) r

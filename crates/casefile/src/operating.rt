@@ -1,5 +1,5 @@
 // One field of a file: the sequence check, settle where it is owed, and the field's own operation.
-ghost use Rattle.std.specs.Prelude.{◌≡◌, ◌<◌};
+ghost use Rattle.std.specs.Prelude.{◌≡◌, ◌<◌, length};
 ghost use Rattle.fields.specs.Reading.{said};
 ghost use Rattle.reader.specs.Seen.{seen};
 ghost use Rattle.sequence.specs.Machines.{acting, settling};
@@ -9,8 +9,7 @@ ghost use Rattle.casefile.specs.Listed.{listed};
 ghost use Rattle.casefile.specs.Results.{Did, SettledAt, placed, turned};
 
 use crate::answers::Answers;
-use faults::fault::FileFault;
-use faults::plan_fault::PlanFault;
+use faults::fault::{FileFault, PlanFault};
 use fields::field::Field;
 use model::refusal::Refusal;
 use reader::reader::Reader;
@@ -20,22 +19,7 @@ use sequence::phase::Phase;
 fn at(place: usize, answer: Result<u64, Refusal>) -> Result<u64, PlanFault>
     ensures { result ≡ placed place answer }
 {
-    match answer {
-        Ok(n) => Ok(n),
-        Err(refusal) => Err(PlanFault::new(place, refusal)),
-    }
-}
-
-// The operation of a field.
-fn act(
-    reader: &mut Reader,
-    field: Field<'_>,
-    forward: &mut [u8],
-    backward: &mut [u8],
-) -> Result<u64, Refusal>
-    ensures { Did (seen reader.new forward.new backward.new) result (acting desk (seen reader.old forward.old backward.old) (said field.entry)) }
-{
-    reader.operate(field, forward, backward)
+    answer.map_err(|refusal| PlanFault::new(place, refusal))
 }
 
 // Settles the goal at that place, if one is owed.
@@ -63,14 +47,14 @@ pub(crate) fn turn(
     backward: &mut [u8],
     answers: &mut Answers,
 ) -> Result<Phase, FileFault>
-    requires { answers.old.many < 3277 }
+    requires { length (listed answers.old) < 3277 }
     ensures { turn_of desk phase place (said field.entry) (seen reader.old forward.old backward.old) (listed answers.old) ≡ turned result (seen reader.new forward.new backward.new) (listed answers.new) }
 {
     let Some(next) = phase.after(place, field) else {
         return Err(FileFault::OutOfSequence { place });
     };
     settle_owed(reader, phase.owes(field), forward, backward)?;
-    let answer = at(place, act(reader, field, forward, backward))?;
+    let answer = at(place, reader.operate(field, forward, backward))?;
     answers.note(field, answer);
     Ok(next)
 }

@@ -32,7 +32,7 @@ too_long = record { layer = inFile; place = 16384; number = 20 }
 -- what a fault says
 abbrev pub told : FileFault → Fault
 told (Field f) = fault_in_field f.place (cause_number f.cause)
-told (Plan f) = fault_in_plan f.place (number_of f.refusal)
+told (Plan f) = fault_in_plan f.place (number_of f.cause)
 told (OutOfSequence place) = out_of_sequence place
 told TooLong = too_long
 

@@ -4,8 +4,12 @@ ghost use Rattle.faults.specs.Faults.{fault_number, layer_of, place_of};
 ghost use Rattle.faults.specs.declared.fault.FileFault.TheVariants.{Field as InField, Plan as InPlan};
 
 use crate::limits::MOST_BYTES;
-use crate::plan_fault::PlanFault;
 use fields::field::FieldFault;
+use fields::placed::Placed;
+use model::refusal::Refusal;
+
+// A refused operation, with the place of its field.
+pub type PlanFault = Placed<Refusal>;
 
 #[derive(Clone, Copy)]
 pub enum FileFault {
@@ -73,7 +77,7 @@ impl FileFault {
     {
         match self {
             FileFault::Field(fault) => fault.cause().number(),
-            FileFault::Plan(fault) => fault.refusal().number(),
+            FileFault::Plan(fault) => fault.cause().number(),
             FileFault::OutOfSequence { .. } => 19,
             FileFault::TooLong => 20,
         }

@@ -3,5 +3,4 @@
 
 pub mod fault;
 pub mod limits;
-pub mod plan_fault;
 pub mod showing;

@@ -1,5 +1,5 @@
 -- From a head and a value that were read to the first field.
-use Rattle.std.proofs.Common.{◌≡◌, ℕ, ◌+◌, ◌≤◌, Bool, true, false, cond, ltb, List, ◌++◌, length, get_or, take, drop, Some, None, sym, refl, ap, ◌∙◌, arith, length-append, length-drop, drop-drop}
+use Rattle.std.proofs.Common.{◌≡◌, ℕ, ◌+◌, ◌≤◌, Bool, true, false, cond, ltb, List, ◌++◌, length, get_or, take, drop, Some, None, Option, sym, refl, ap, ◌∙◌, arith, length-append, length-drop, drop-drop}
 use Rattle.fields.specs.declared.field.Cause.{Cause}
 use Rattle.fields.specs.declared.field.Cause.TheVariants.{Short, UnknownTag, WrongLength}
 use Rattle.fields.specs.declared.field.Field.{Field}
@@ -9,30 +9,23 @@ use Rattle.fields.specs.Fields.{two, eight, right_length, fault, Reads}
 use Rattle.fields.specs.Reading.{value, said, totals, first, First, bad, got, Bytes}
 use Rattle.fields.proofs.Laws.{back}
 
-some_not : {A : Type 0} (c : Cause) → None ≡ Some c → A
-some_not c e = let z : ◌≡◌ {A = ℕ} 0 1 = cc in absurd (omega (arith, z))
+-- what a field with that fault, or with none, reads as
+abbrev on_fault : First → Option Cause → First
+on_fault x None = x
+on_fault x (Some e) = bad e
 
 -- the fault of a field and its reading go by the same tests
-same_bad : (a b c d : Bool) (x : First) (e : Cause)
-    → cond a (Some Short) (cond b (Some UnknownTag) (cond c (cond d (Some Short) None) (Some WrongLength))) ≡ Some e
-    → cond a (bad Short) (cond b (bad UnknownTag) (cond c (cond d (bad Short) x) (bad WrongLength))) ≡ bad e
-same_bad true b c d x e h = cc
-same_bad false true c d x e h = cc
-same_bad false false false d x e h = cc
-same_bad false false true true x e h = cc
-same_bad false false true false x e h = some_not e h
+same : (a b c d : Bool) (x : First)
+    → cond a (bad Short) (cond b (bad UnknownTag) (cond c (cond d (bad Short) x) (bad WrongLength)))
+    ≡ on_fault x (cond a (Some Short) (cond b (Some UnknownTag) (cond c (cond d (Some Short) None) (Some WrongLength))))
+same false false true false x = refl
+same a b c d x = refl
 
-same_got : (a b c d : Bool) (x : First)
-    → cond a (Some Short) (cond b (Some UnknownTag) (cond c (cond d (Some Short) None) (Some WrongLength))) ≡ None
-    → cond a (bad Short) (cond b (bad UnknownTag) (cond c (cond d (bad Short) x) (bad WrongLength))) ≡ x
-same_got true b c d x h = some_not _ (sym h)
-same_got false true c d x h = some_not _ (sym h)
-same_got false false false d x h = some_not _ (sym h)
-same_got false false true true x h = some_not _ (sym h)
-same_got false false true false x h = refl
+first_by : (rest : List ℕ) → first rest ≡ on_fault (got (value rest) (drop (3 + two rest 1) rest)) (fault rest)
+first_by rest = same (ltb (length rest) 3) (ltb 5 (get_or rest 0 0)) (right_length (get_or rest 0 0) (two rest 1)) (ltb (length rest) (3 + two rest 1)) _
 
 pub first_bad : (rest : List ℕ) (e : Cause) → fault rest ≡ Some e → first rest ≡ bad e
-first_bad rest e h = same_bad (ltb (length rest) 3) (ltb 5 (get_or rest 0 0)) (right_length (get_or rest 0 0) (two rest 1)) (ltb (length rest) (3 + two rest 1)) (got (value rest) (drop (3 + two rest 1) rest)) e h
+first_bad rest e h = first_by rest ∙ ap (on_fault (got (value rest) (drop (3 + two rest 1) rest))) h
 
 value_said : (rest : List ℕ) (f : Field) → Reads rest f → value rest ≡ said f
 value_said rest (Kind size price counts) h = let t = h.0 in let v : value rest ≡ said (Kind (two rest 3) (two rest 5) (eight rest 7)) = rw t in cc
@@ -47,8 +40,7 @@ value_said rest End h = rw h
 
 pub first_said : (rest : List ℕ) (f : Field) → fault rest ≡ None → Reads rest f → first rest ≡ got (said f) (drop (3 + two rest 1) rest)
 first_said rest f n h =
-    same_got (ltb (length rest) 3) (ltb 5 (get_or rest 0 0)) (right_length (get_or rest 0 0) (two rest 1)) (ltb (length rest) (3 + two rest 1)) (got (value rest) (drop (3 + two rest 1) rest)) n
-    ∙ ap (λ v. got v (drop (3 + two rest 1) rest)) (value_said rest f h)
+    first_by rest ∙ (ap (on_fault (got (value rest) (drop (3 + two rest 1) rest))) n ∙ ap (λ v. got v (drop (3 + two rest 1) rest)) (value_said rest f h))
 
 -- the place after a field
 pub next_place : (file : List ℕ) (p n : ℕ) (f : Field) → p ≤ length file → Bytes (drop p file) → fault (drop p file) ≡ None → Reads (drop p file) f → n ≡ two (drop p file) 1

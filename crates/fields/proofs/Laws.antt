@@ -1,14 +1,14 @@
 -- Reading and writing are inverse to each other.
-use Rattle.std.proofs.Common.{◌≡◌, ℕ, zero, suc, ◌+◌, ◌-◌, ◌*◌, ◌%◌, ◌≤◌, Bool, true, false, cond, ltb, List, [], ◌∷◌, ◌++◌, length, get_or, take, drop, sym, refl, ap, ◌∙◌, subst, append_assoc, append-nil, div-add-mod', arith, length-append, length-drop, take-append-drop, length-take-le, get_or-drop, drop-drop, take_at, drop_at}
+use Rattle.std.proofs.Common.{◌≡◌, ℕ, zero, suc, ◌+◌, ◌-◌, ◌*◌, ◌%◌, ◌<◌, ◌≤◌, Bool, true, false, cond, ltb, List, [], ◌∷◌, ◌++◌, length, get_or, take, drop, sym, refl, ap, ◌∙◌, subst, append_assoc, append-nil, div-add-mod', arith, length-append, length-drop, length-take-le, get_or-drop, drop-drop, take_at, drop_at}
 use lib.Seq.{drop-append_seam}
 use Rattle.std.proofs.lemmas.Bool.{ltb-false, le-ltb, eq-eqb, eqb-true, leb-true, le-leb, and_from, and_parts, cond-true, cond-false}
 use Rattle.fields.specs.declared.field.Cause.{Cause}
 use Rattle.fields.specs.declared.field.Cause.TheVariants.{Short, UnknownTag, WrongLength}
 use Rattle.std.specs.List.{AllByRecursion}
-use Rattle.fields.specs.Values.{Value, kind, band, list, stride, rule_out_field, end, pairs, field, write, Fine}
+use Rattle.fields.specs.Values.{Value, kind, band, list, stride, rule_out_field, end, bytes2, bytes8, pairs, field, write, Fine}
 use Rattle.fields.specs.Fields.{two, eight, right_length}
 use Rattle.fields.specs.Reading.{totals, value, First, bad, got, first, Bytes, Stop, broken, closed, Fields, is_end, onward, fields_by, fields, Open, Left, Ends, Walk}
-use Rattle.fields.proofs.Bytewise.{parted, bytes2_two, bytes8_eight, eight_again, totals_pairs, length_pairs, pairs_totals, totals_fine}
+use Rattle.fields.proofs.Bytewise.{firsts, firsts_is, parted, bytes2_two, bytes8_eight, eight_again, totals_pairs, length_pairs, pairs_totals, totals_fine}
 
 -- what a list of bytes has whose first field passes
 pub record Passes (bytes : List ℕ) : Type 0 where
@@ -23,17 +23,11 @@ first_got bytes p =
     ∙ (cond-false _ _ _ (le-ltb 5 (get_or bytes 0 0) p.tag)
     ∙ (cond-true _ _ _ p.right ∙ cond-false _ _ _ (le-ltb (length bytes) (3 + two bytes 1) p.whole)))
 
-bad_not : {A : Type 0} (c : Cause) (v : Value) (rest : List ℕ) → bad c ≡ got v rest → A
-bad_not c v rest e = let z : ◌≡◌ {A = ℕ} 0 1 = cc in absurd (omega (arith, z))
-
 tells : (a b c d : Bool) (v w : Value) (r s : List ℕ)
     → cond a (bad Short) (cond b (bad UnknownTag) (cond c (cond d (bad Short) (got w s)) (bad WrongLength))) ≡ got v r
     → (a ≡ false) × (b ≡ false) × (c ≡ true) × (d ≡ false) × (v ≡ w) × (r ≡ s)
-tells true b c d v w r s e = bad_not _ _ _ e
-tells false true c d v w r s e = bad_not _ _ _ e
-tells false false false d v w r s e = bad_not _ _ _ e
-tells false false true true v w r s e = bad_not _ _ _ e
 tells false false true false v w r s e = (refl, refl, refl, refl, cc, cc)
+tells a b c d v w r s e = cc
 
 pub first_tells : (bytes : List ℕ) (v : Value) (rest : List ℕ) → first bytes ≡ got v rest
     → Passes bytes × (v ≡ value bytes) × (rest ≡ drop (3 + two bytes 1) bytes)
@@ -49,54 +43,45 @@ first_tells bytes v rest e =
       t.5,
     )
 
--- a field that is written is read back
-pub one : (v : Value) (rest : List ℕ) → Fine v → first (field v ++ rest) ≡ got v rest
-one (kind size price counts) rest fine =
-    let bytes = field (kind size price counts) ++ rest in
-    let p : Passes bytes = record { head = omega arith; tag = omega arith; right = refl; whole = omega arith } in
-    let a = div-add-mod' size 256 in
-    let b = div-add-mod' price 256 in
-    let c = eight_again counts in
-    first_got bytes p ∙ cc
-one (band low high) rest fine =
-    let bytes = field (band low high) ++ rest in
-    let p : Passes bytes = record { head = omega arith; tag = omega arith; right = refl; whole = omega arith } in
-    let a = div-add-mod' low 256 in
-    let b = div-add-mod' high 256 in
-    first_got bytes p ∙ cc
-one (list ns) rest fine =
-    let bytes = field (list ns) ++ rest in
-    let n : length (pairs ns) ≡ length ns * 2 = length_pairs ns in
-    let right : right_length 3 (length (pairs ns)) ≡ true =
-    and_from _ _ (le-leb 2 (length (pairs ns)) (omega arith)) (and_from _ _ (le-leb (length (pairs ns)) 32 (omega arith)) (eq-eqb (length (pairs ns) % 2) 0 (omega arith))) in
-    let k = 0 * 256 + length (pairs ns) in
-    let z : 0 * 256 + length (pairs ns) ≡ length (pairs ns) = omega arith in
+-- a field that is written passes
+first_written : (t : ℕ) (body rest : List ℕ) → t ≤ 5 → right_length t (length body) ≡ true
+    → first ((t ∷ 0 ∷ length body ∷ body) ++ rest) ≡ got (value ((t ∷ 0 ∷ length body ∷ body) ++ rest)) rest
+first_written t body rest h r =
+    let bytes = t ∷ 0 ∷ length body ∷ (body ++ rest) in
+    let z : 0 * 256 + length body ≡ length body = omega arith in
     let p : Passes bytes =
     record {
       head = omega arith;
-      tag = omega arith;
-      right = subst (λ (j : ℕ). right_length 3 j ≡ true) (sym z) right;
-      whole = omega (arith, length-append (pairs ns) rest);
+      tag = h;
+      right = subst (λ (j : ℕ). right_length t j ≡ true) (sym z) r;
+      whole = omega (arith, length-append body rest);
     } in
-    let a : take (0 * 256 + length (pairs ns)) (pairs ns ++ rest) ≡ pairs ns = take_at (pairs ns) rest (0 * 256 + length (pairs ns)) (sym z) in
-    let b : drop (3 + (0 * 256 + length (pairs ns))) bytes ≡ rest =
-    sym (drop-drop (0 * 256 + length (pairs ns)) 3 bytes) ∙ drop_at (pairs ns) rest (0 * 256 + length (pairs ns)) (sym z) in
+    first_got bytes p ∙ ap (got (value bytes)) (sym (drop-drop (0 * 256 + length body) 3 bytes) ∙ drop_at body rest (0 * 256 + length body) (sym z))
+
+-- and is read back
+pub one : (v : Value) (rest : List ℕ) → Fine v → first (field v ++ rest) ≡ got v rest
+one (kind size price counts) rest fine =
+    let a = div-add-mod' size 256 in
+    let b = div-add-mod' price 256 in
+    let c = eight_again counts in
+    first_written 1 (bytes2 size ++ (bytes2 price ++ bytes8 counts)) rest (omega arith) refl ∙ cc
+one (band low high) rest fine =
+    let a = div-add-mod' low 256 in
+    let b = div-add-mod' high 256 in
+    first_written 2 (bytes2 low ++ bytes2 high) rest (omega arith) refl ∙ cc
+one (list ns) rest fine =
+    let n : length (pairs ns) ≡ length ns * 2 = length_pairs ns in
+    let right : right_length 3 (length (pairs ns)) ≡ true =
+    and_from _ _ (le-leb 2 (length (pairs ns)) (omega arith)) (and_from _ _ (le-leb (length (pairs ns)) 32 (omega arith)) (eq-eqb (length (pairs ns) % 2) 0 (omega arith))) in
+    let a : take (0 * 256 + length (pairs ns)) (pairs ns ++ rest) ≡ pairs ns = take_at (pairs ns) rest (0 * 256 + length (pairs ns)) (omega arith) in
     let c = totals_pairs ns in
-    first_got bytes p ∙ cc
+    first_written 3 (pairs ns) rest (omega arith) right ∙ cc
 one (stride modulus r) rest fine =
-    let bytes = field (stride modulus r) ++ rest in
-    let p : Passes bytes = record { head = omega arith; tag = omega arith; right = refl; whole = omega arith } in
     let a = div-add-mod' modulus 256 in
     let b = div-add-mod' r 256 in
-    first_got bytes p ∙ cc
-one (rule_out_field k count) rest fine =
-    let bytes = field (rule_out_field k count) ++ rest in
-    let p : Passes bytes = record { head = omega arith; tag = omega arith; right = refl; whole = omega arith } in
-    first_got bytes p
-one end rest fine =
-    let bytes = field end ++ rest in
-    let p : Passes bytes = record { head = omega arith; tag = omega arith; right = refl; whole = omega arith } in
-    first_got bytes p
+    first_written 4 (bytes2 modulus ++ bytes2 r) rest (omega arith) refl ∙ cc
+one (rule_out_field k count) rest fine = first_written 5 (k ∷ count ∷ []) rest (omega arith) refl
+one end rest fine = first_written 0 [] rest (omega arith) refl
 
 pub bytes_take : (n : ℕ) (xs : List ℕ) → Bytes xs → Bytes (take n xs)
 bytes_take zero xs by k = omega arith
@@ -111,10 +96,16 @@ bytes_drop n xs by k = rw get_or-drop (by (n + k))
 abbrev Again : List ℕ → Type 0
 Again bytes = (bytes ≡ field (value bytes) ++ drop (3 + two bytes 1) bytes) × Fine (value bytes)
 
-again_at : (bytes : List ℕ) (v : Value) (n : ℕ) → value bytes ≡ v → two bytes 1 ≡ n → bytes ≡ field v ++ drop (3 + n) bytes → Fine v → Again bytes
-again_at bytes v n ev en eq fine =
-    subst (λ (w : Value). (bytes ≡ field w ++ drop (3 + two bytes 1) bytes) × Fine w) (sym ev)
-    (subst (λ (k : ℕ). (bytes ≡ field v ++ drop (3 + k) bytes) × Fine v) (sym en) (eq, fine))
+again_at : (bytes : List ℕ) → Bytes bytes → Passes bytes → (t n : ℕ) (v : Value) → get_or bytes 0 0 ≡ t → two bytes 1 ≡ n → n < 256
+    → value bytes ≡ v → field v ≡ t ∷ 0 ∷ n ∷ firsts n 3 bytes → Fine v → Again bytes
+again_at bytes by p t n v e en small ev ef fine =
+    let y1 = by 1 in
+    let y2 = by 2 in
+    let hi : get_or bytes 1 0 ≡ 0 = omega arith in
+    let lo : get_or bytes 2 0 ≡ n = omega arith in
+    let past : 3 + two bytes 1 ≡ suc (suc (suc n)) = omega arith in
+    let whole = parted (suc (suc (suc n))) bytes (omega (arith, p.whole)) in
+    (cc, subst Fine (sym ev) fine)
 
 again_list : (bytes : List ℕ) → Bytes bytes → Passes bytes → get_or bytes 0 0 ≡ 3 → Again bytes
 again_list bytes by p e =
@@ -125,76 +116,39 @@ again_list bytes by p e =
     let low : 2 ≤ two bytes 1 = leb-true 2 (two bytes 1) r.0 in
     let high : two bytes 1 ≤ 32 = leb-true (two bytes 1) 32 s.0 in
     let even : two bytes 1 % 2 ≡ 0 = eqb-true (two bytes 1 % 2) 0 s.1 in
-    let y1 = by 1 in
-    let y2 = by 2 in
-    let hi : get_or bytes 1 0 ≡ 0 = omega arith in
-    let lo : get_or bytes 2 0 ≡ two bytes 1 = omega arith in
     let enough : two bytes 1 ≤ length (drop 3 bytes) = omega (arith, length-drop 3 bytes, p.whole) in
     let long : length part ≡ two bytes 1 = length-take-le (two bytes 1) (drop 3 bytes) enough in
     let fits = bytes_take (two bytes 1) (drop 3 bytes) (bytes_drop 3 bytes by) in
     let back : pairs (totals part) ≡ part = pairs_totals part (rw long even) fits in
     let twice : length (pairs (totals part)) ≡ length (totals part) * 2 = length_pairs (totals part) in
     let same : length (pairs (totals part)) ≡ two bytes 1 = ap length back ∙ long in
-    let val : value bytes ≡ list (totals part) = rw e in
-    let whole = parted 3 bytes p.head in
-    let rest : drop 3 bytes ≡ part ++ drop (3 + two bytes 1) bytes =
-    sym (take-append-drop (two bytes 1) (drop 3 bytes)) ∙ ap (λ (t : List ℕ). part ++ t) (drop-drop (two bytes 1) 3 bytes) in
-    let join : bytes ≡ field (list (totals part)) ++ drop (3 + two bytes 1) bytes = cc in
-    again_at bytes (list (totals part)) (two bytes 1) val refl join (omega arith, omega arith, totals_fine part fits)
+    let read = firsts_is (two bytes 1) 3 bytes (omega (arith, p.whole)) in
+    again_at bytes by p 3 (two bytes 1) (list (totals part)) e refl (omega arith) (rw e) (cc) (omega arith, omega arith, totals_fine part fits)
+
+-- two numbers of two bytes
+four_read : (bytes : List ℕ) → Bytes bytes → (bytes2 (two bytes 3) ++ bytes2 (two bytes 5) ≡ firsts 4 3 bytes) × (two bytes 3 < 65536) × (two bytes 5 < 65536)
+four_read bytes by =
+    let a = bytes2_two (get_or bytes 3 0) (get_or bytes 4 0) (by 4) in
+    let b = bytes2_two (get_or bytes 5 0) (get_or bytes 6 0) (by 6) in
+    (cc, omega (arith, by 3, by 4), omega (arith, by 5, by 6))
 
 again : (bytes : List ℕ) → Bytes bytes → Passes bytes → (t : ℕ) → get_or bytes 0 0 ≡ t → t ≤ 5 → Again bytes
 again bytes by p zero e h =
-    let n : two bytes 1 ≡ 0 = eqb-true (two bytes 1) 0 (rw e at p.right) in
-    let y1 = by 1 in
-    let y2 = by 2 in
-    let hi : get_or bytes 1 0 ≡ 0 = omega arith in
-    let lo : get_or bytes 2 0 ≡ 0 = omega arith in
-    let whole = parted 3 bytes p.head in
-    again_at bytes end 0 (rw e) n (cc) tt
+    again_at bytes by p 0 0 end e (eqb-true (two bytes 1) 0 (rw e at p.right)) (omega arith) (rw e) refl tt
 again bytes by p (suc zero) e h =
-    let n : two bytes 1 ≡ 12 = eqb-true (two bytes 1) 12 (rw e at p.right) in
-    let y1 = by 1 in
-    let y2 = by 2 in
-    let hi : get_or bytes 1 0 ≡ 0 = omega arith in
-    let lo : get_or bytes 2 0 ≡ 12 = omega arith in
-    let whole = parted 15 bytes (omega (arith, p.whole)) in
-    let a = bytes2_two (get_or bytes 3 0) (get_or bytes 4 0) (by 4) in
-    let b = bytes2_two (get_or bytes 5 0) (get_or bytes 6 0) (by 6) in
+    let w = four_read bytes by in
     let c = bytes8_eight (get_or bytes 7 0) (get_or bytes 8 0) (get_or bytes 9 0) (get_or bytes 10 0) (get_or bytes 11 0) (get_or bytes 12 0) (get_or bytes 13 0) (get_or bytes 14 0) (by 8, by 9, by 10, by 11, by 12, by 13, by 14) in
-    again_at bytes (kind (two bytes 3) (two bytes 5) (eight bytes 7)) 12 (rw e) n (cc) (
-      omega (arith, by 3, by 4),
-      omega (arith, by 5, by 6),
-      omega (arith, by 7, by 8, by 9, by 10, by 11, by 12, by 13, by 14),
-    )
+    again_at bytes by p 1 12 (kind (two bytes 3) (two bytes 5) (eight bytes 7)) e (eqb-true (two bytes 1) 12 (rw e at p.right)) (omega arith) (rw e) (cc)
+    (w.1, w.2, omega (arith, by 7, by 8, by 9, by 10, by 11, by 12, by 13, by 14))
 again bytes by p (suc (suc zero)) e h =
-    let n : two bytes 1 ≡ 4 = eqb-true (two bytes 1) 4 (rw e at p.right) in
-    let y1 = by 1 in
-    let y2 = by 2 in
-    let hi : get_or bytes 1 0 ≡ 0 = omega arith in
-    let lo : get_or bytes 2 0 ≡ 4 = omega arith in
-    let whole = parted 7 bytes (omega (arith, p.whole)) in
-    let a = bytes2_two (get_or bytes 3 0) (get_or bytes 4 0) (by 4) in
-    let b = bytes2_two (get_or bytes 5 0) (get_or bytes 6 0) (by 6) in
-    again_at bytes (band (two bytes 3) (two bytes 5)) 4 (rw e) n (cc) (omega (arith, by 3, by 4), omega (arith, by 5, by 6))
+    let w = four_read bytes by in
+    again_at bytes by p 2 4 (band (two bytes 3) (two bytes 5)) e (eqb-true (two bytes 1) 4 (rw e at p.right)) (omega arith) (rw e) (ap (λ t. 2 ∷ 0 ∷ 4 ∷ t) w.0) (w.1, w.2)
 again bytes by p (suc (suc (suc zero))) e h = again_list bytes by p e
 again bytes by p (suc (suc (suc (suc zero)))) e h =
-    let n : two bytes 1 ≡ 4 = eqb-true (two bytes 1) 4 (rw e at p.right) in
-    let y1 = by 1 in
-    let y2 = by 2 in
-    let hi : get_or bytes 1 0 ≡ 0 = omega arith in
-    let lo : get_or bytes 2 0 ≡ 4 = omega arith in
-    let whole = parted 7 bytes (omega (arith, p.whole)) in
-    let a = bytes2_two (get_or bytes 3 0) (get_or bytes 4 0) (by 4) in
-    let b = bytes2_two (get_or bytes 5 0) (get_or bytes 6 0) (by 6) in
-    again_at bytes (stride (two bytes 3) (two bytes 5)) 4 (rw e) n (cc) (omega (arith, by 3, by 4), omega (arith, by 5, by 6))
+    let w = four_read bytes by in
+    again_at bytes by p 4 4 (stride (two bytes 3) (two bytes 5)) e (eqb-true (two bytes 1) 4 (rw e at p.right)) (omega arith) (rw e) (ap (λ t. 4 ∷ 0 ∷ 4 ∷ t) w.0) (w.1, w.2)
 again bytes by p (suc (suc (suc (suc (suc zero))))) e h =
-    let n : two bytes 1 ≡ 2 = eqb-true (two bytes 1) 2 (rw e at p.right) in
-    let y1 = by 1 in
-    let y2 = by 2 in
-    let hi : get_or bytes 1 0 ≡ 0 = omega arith in
-    let lo : get_or bytes 2 0 ≡ 2 = omega arith in
-    let whole = parted 5 bytes (omega (arith, p.whole)) in
-    again_at bytes (rule_out_field (get_or bytes 3 0) (get_or bytes 4 0)) 2 (rw e) n (cc) (by 3, by 4)
+    again_at bytes by p 5 2 (rule_out_field (get_or bytes 3 0) (get_or bytes 4 0)) e (eqb-true (two bytes 1) 2 (rw e at p.right)) (omega arith) (rw e) refl (by 3, by 4)
 again bytes by p (suc (suc (suc (suc (suc (suc t)))))) e h = absurd (omega arith)
 
 pub back : (bytes : List ℕ) (v : Value) (rest : List ℕ) → Bytes bytes → first bytes ≡ got v rest → (bytes ≡ field v ++ rest) × Fine v
@@ -218,23 +172,18 @@ turned f g (got v rest) h =
 
 -- more turns than bytes change nothing
 pub enough : (n m : ℕ) (bytes : List ℕ) → length bytes ≤ n → length bytes ≤ m → fields_by n bytes ≡ fields_by m bytes
-enough zero zero bytes h k = refl
-enough zero (suc m) [] h k = refl
-enough zero (suc m) (x ∷ xs) h k = absurd (omega arith)
-enough (suc n) zero [] h k = refl
-enough (suc n) zero (x ∷ xs) h k = absurd (omega arith)
 enough (suc n) (suc m) bytes h k =
     turned (fields_by n) (fields_by m) (first bytes)
     (λ v rest e. let s = shorter bytes v rest e in enough n m rest (omega arith) (omega arith))
+enough zero zero [] h k = refl
+enough n m [] h k = refl
+enough n m (x ∷ xs) h k = absurd (omega arith)
 
 pub fields_onward : (bytes : List ℕ) → fields bytes ≡ onward fields (first bytes)
 fields_onward [] = refl
 fields_onward (x ∷ xs) =
     turned (fields_by (length xs)) fields (first (x ∷ xs))
     (λ v rest e. let s : length rest + 3 ≤ suc (length xs) = shorter (x ∷ xs) v rest e in enough (length xs) (length rest) rest (omega arith) (omega arith))
-
-more : Value → Fields → Fields
-more v f = record { values = v ∷ f.values; stop = f.stop }
 
 pub fields_more : (bytes : List ℕ) (v : Value) (rest : List ℕ) → first bytes ≡ got v rest → is_end v ≡ false
     → fields bytes ≡ record { values = v ∷ (fields rest).values; stop = (fields rest).stop }
@@ -269,16 +218,9 @@ breaks vs rest c fine free e =
 abbrev Wrote : List ℕ → Fields → Type 0
 Wrote bytes f = (rest : List ℕ) × (bytes ≡ write f.values ++ rest) × Left f.stop rest × AllByRecursion Fine f.values × Ends f.stop f.values
 
-true_not : {A : Type 0} → ◌≡◌ {A = Bool} false true → A
-true_not e = let z : ◌≡◌ {A = ℕ} 0 1 = cc in absurd (omega (arith, z))
-
 pub end_is : (v : Value) → is_end v ≡ true → v ≡ end
-end_is (kind size price counts) e = true_not e
-end_is (band low high) e = true_not e
-end_is (list ns) e = true_not e
-end_is (stride modulus r) e = true_not e
-end_is (rule_out_field k count) e = true_not e
 end_is end e = refl
+end_is v e = cc
 
 ends_more : (v : Value) → is_end v ≡ false → (s : Stop) (vs : List Value) → Ends s vs → Ends s (v ∷ vs)
 ends_more v o (broken c) vs h = (o, h)

@@ -3,6 +3,7 @@ use Rattle.std.specs.Prelude.{◌≡◌, ℕ, ◌+◌, ◌*◌, ◌%◌, Bool, c
 use Rattle.fields.specs.declared.field.Cause.{Cause}
 use Rattle.fields.specs.declared.field.Cause.TheVariants.{Short, UnknownTag, WrongLength}
 use Rattle.fields.specs.declared.head.Head.{Head}
+use Rattle.fields.specs.Tags.{code}
 use Rattle.fields.specs.declared.field.Field.{Field}
 use Rattle.fields.specs.declared.field.Field.TheVariants.{Kind, Band, List as Totals, Stride, RuleOut, End}
 
@@ -43,5 +44,5 @@ Reads rest End = slice_index rest 0 ≡ 0
 
 -- what the head of a field answers: its tag and the length of its value, or the first fault
 abbrev pub Heads : List ℕ → Result Head Cause → Type 0
-Heads rest (Ok h) = (fault rest ≡ None) × (h.tag ≡ slice_index rest 0) × (h.len ≡ two rest 1)
+Heads rest (Ok h) = (fault rest ≡ None) × (code h.tag ≡ slice_index rest 0) × (h.len ≡ two rest 1)
 Heads rest (Err e) = fault rest ≡ Some e

@@ -1,4 +1,5 @@
 pub mod Causes
 pub mod Values
+pub mod Tags
 pub mod Fields
 pub mod Reading

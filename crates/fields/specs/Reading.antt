@@ -2,7 +2,7 @@
 use Rattle.std.specs.Prelude.{◌≡◌, ℕ, zero, suc, ◌+◌, ◌*◌, ◌<◌, Bool, true, false, cond, List, [], ◌∷◌, ◌++◌, length, take, drop, Ok, Err, Result, ◌==◌, nat_lt, slice_index}
 use Rattle.fields.specs.declared.field.Cause.{Cause}
 use Rattle.fields.specs.declared.field.Cause.TheVariants.{Short, UnknownTag, WrongLength}
-use Rattle.fields.specs.declared.field.FieldFault.{FieldFault}
+use Rattle.fields.specs.declared.placed.Placed.{Placed}
 use Rattle.fields.specs.declared.field.Field.{Field}
 use Rattle.fields.specs.declared.field.Field.TheVariants.{Kind, Band, List as Totals, Stride, RuleOut, End}
 use Rattle.std.specs.List.{AllByRecursion}
@@ -52,7 +52,7 @@ abbrev pub Bytes : List ℕ → Type 0
 Bytes bs = (k : ℕ) → slice_index bs k < 256
 
 -- one call of the cursor at p: a field leaves the place at the bytes after it, and was written at p; a fault leaves the place
-abbrev pub Next : List ℕ → ℕ → Result Field FieldFault → ℕ → Type 0
+abbrev pub Next : List ℕ → ℕ → Result Field (Placed Cause) → ℕ → Type 0
 Next file p (Ok f) after = (first (drop p file) ≡ got (said f) (drop after file)) × (after ≡ p + length (field (said f)))
     × (drop p file ≡ field (said f) ++ drop after file) × Fine (said f)
 Next file p (Err e) after = (first (drop p file) ≡ bad e.cause) × (e.place ≡ p) × (after ≡ p)

@@ -37,12 +37,8 @@ impl<'a> Cursor<'a> {
         let place = self.place;
         let bytes = self.bytes;
         let (_, rest) = bytes.split_at(place);
-        match read_head(rest) {
-            Err(cause) => Err(FieldFault::new(place, cause)),
-            Ok(head) => {
-                self.place = place + 3 + head.len;
-                Ok(read_value(rest, head))
-            }
-        }
+        let head = read_head(rest).map_err(|cause| FieldFault::new(place, cause))?;
+        self.place = place + 3 + head.len;
+        Ok(read_value(rest, head))
     }
 }

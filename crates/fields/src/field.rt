@@ -2,6 +2,8 @@
 ghost use Rattle.std.specs.Prelude.{◌≡◌};
 ghost use Rattle.fields.specs.Causes.{cause_number};
 
+use crate::placed::Placed;
+
 // A field's value. A list borrows its totals from the file, two bytes each.
 #[derive(Clone, Copy)]
 pub enum Field<'a> {
@@ -13,14 +15,15 @@ pub enum Field<'a> {
     End,
 }
 
+// Why a field cannot be read, by the numbers that are known outside.
 #[derive(Clone, Copy, PartialEq, Eq, Debug)]
 pub enum Cause {
     // Fewer than 3 bytes are left, or fewer than the length says.
-    Short,
+    Short = 16,
     // The tag is none of the six.
-    UnknownTag,
+    UnknownTag = 17,
     // A field of that tag has another length.
-    WrongLength,
+    WrongLength = 18,
 }
 
 impl Cause {
@@ -28,40 +31,9 @@ impl Cause {
     pub fn number(self) -> u8
         ensures { result ≡ cause_number self }
     {
-        match self {
-            Cause::Short => 16,
-            Cause::UnknownTag => 17,
-            Cause::WrongLength => 18,
-        }
+        self as u8
     }
 }
 
-// The place is the offset of the field's tag, or of where it would stand.
-#[derive(Clone, Copy)]
-pub struct FieldFault {
-    place: usize,
-    cause: Cause,
-}
-
-impl FieldFault {
-    pub(crate) fn new(place: usize, cause: Cause) -> FieldFault
-        ensures place { result.place ≡ place }
-        ensures cause { result.cause ≡ cause }
-    {
-        FieldFault { place, cause }
-    }
-
-    // The offset of the field's tag.
-    pub fn place(&self) -> usize
-        ensures { result ≡ self.now.place }
-    {
-        self.place
-    }
-
-    // Why the field cannot be read.
-    pub fn cause(&self) -> Cause
-        ensures { result ≡ self.now.cause }
-    {
-        self.cause
-    }
-}
+// Why the field at a place cannot be read.
+pub type FieldFault = Placed<Cause>;

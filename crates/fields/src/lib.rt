@@ -6,6 +6,8 @@ ghost use Rattle.fields.specs.Reading.{Inverse};
 pub mod cursor;
 pub mod field;
 mod head;
+pub mod placed;
+mod tag;
 mod value;
 
 // Reading and writing are inverse to each other.

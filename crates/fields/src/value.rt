@@ -4,13 +4,14 @@ ghost use Rattle.fields.specs.Fields.{Heads, Reads, eight, two};
 
 use crate::field::Field;
 use crate::head::Head;
+use crate::tag::Tag;
 
 // The number in two bytes of the file.
 fn pair(bytes: &[u8], at: usize) -> u16
     requires { at + 2 ≤ length bytes.now }
     ensures { result ≡ two bytes.now at }
 {
-    u16::from(bytes[at]) * 256 + u16::from(bytes[at + 1])
+    u16::from_be_bytes([bytes[at], bytes[at + 1]])
 }
 
 // The number in eight bytes of the file.
@@ -18,9 +19,16 @@ fn octet(bytes: &[u8], at: usize) -> u64
     requires { at + 8 ≤ length bytes.now }
     ensures { result ≡ eight bytes.now at }
 {
-    let high = u64::from(pair(bytes, at)) * 65536 + u64::from(pair(bytes, at + 2));
-    let low = u64::from(pair(bytes, at + 4)) * 65536 + u64::from(pair(bytes, at + 6));
-    high * 4294967296 + low
+    u64::from_be_bytes([
+        bytes[at],
+        bytes[at + 1],
+        bytes[at + 2],
+        bytes[at + 3],
+        bytes[at + 4],
+        bytes[at + 5],
+        bytes[at + 6],
+        bytes[at + 7],
+    ])
 }
 
 // The field that begins `rest`, which has this head.
@@ -29,22 +37,22 @@ pub(crate) fn read_value<'a>(rest: &'a [u8], head: Head) -> Field<'a>
     ensures { Reads rest.now result }
 {
     match head.tag {
-        0 => Field::End,
-        1 => Field::Kind {
+        Tag::End => Field::End,
+        Tag::Kind => Field::Kind {
             size: pair(rest, 3),
             price: pair(rest, 5),
             set: octet(rest, 7),
         },
-        2 => Field::Band {
+        Tag::Band => Field::Band {
             low: pair(rest, 3),
             high: pair(rest, 5),
         },
-        3 => Field::List(&rest[3..3 + head.len]),
-        4 => Field::Stride {
+        Tag::List => Field::List(&rest[3..3 + head.len]),
+        Tag::Stride => Field::Stride {
             modulus: pair(rest, 3),
             remainder: pair(rest, 5),
         },
-        _ => Field::RuleOut {
+        Tag::RuleOut => Field::RuleOut {
             kind: rest[3],
             count: rest[4],
         },

@@ -1,5 +1,5 @@
 -- From the run of a file to its outcome.
-use Rattle.std.proofs.Common.{◌≡◌, ℕ, true, List, [], length, Some, None, Option, sym, refl, ap, ◌∙◌, subst, inl, inr, arith}
+use Rattle.std.proofs.Common.{◌≡◌, ℕ, true, List, [], length, Some, None, Option, sym, refl, ap, ◌∙◌, subst, inl, inr}
 use Rattle.model.specs.Answers.{accepted, refused}
 use Rattle.std.specs.List.{AllByRecursion}
 use Rattle.fields.specs.Values.{Value, kind, band, list, stride, rule_out_field, end, write, Fine}
@@ -24,33 +24,29 @@ use Rattle.outcomes.proofs.Rules.{rule_stops}
 use Rattle.outcomes.proofs.Going.{goes_on, none_not}
 
 no_place : {A : Type 0} (g : ℕ) → None ≡ Some g → A
-no_place g e = let z : ◌≡◌ {A = ℕ} 0 1 = cc in absurd (omega (arith, z))
+no_place g e = cc
 
 never : {A : Type 0} (m n : ℕ) → accepted m ≡ refused n → A
-never m n e = let z : ◌≡◌ {A = ℕ} 0 1 = cc in absurd (omega (arith, z))
+never m n e = cc
 
 module _ (f b : List ℕ) (values : List Value) (log : List Ruled) where
   standing_of_lem : (phase : Phase) (h : Holding) → Stage f b phase values log h → Standing phase f b values log h
-  standing_of_lem Kinds h st = st.0.waits
-  standing_of_lem (Goal g) h st = st.0.waits
-  standing_of_lem (Strided g) h st = st.0.waits
   standing_of_lem Rules h st = st
   standing_of_lem Done h st = st
+  standing_of_lem phase h st = st.0.waits
 
   module _ (q : ℕ) (rest : List ℕ) (s : Holding) where
     -- settle is refused
     settle_by : (phase : Phase) (v : Value) (r : List ℕ) (next : Phase) (g n : ℕ) → Stage f b phase values log s → reach Kinds 0 values ≡ Some phase
         → first rest ≡ got v r → follow phase q v ≡ Some next → owes phase v ≡ Some g → (settle_held s).1 ≡ refused n
         → Stops f b phase values q rest (fault_in_plan g n) (settle_held s).0 log
-    settle_by Kinds v r next g n st se e1 e2 o a = no_place g o
     settle_by (Goal p) v r next g n st se e1 e2 o a =
         let k = settle_stops f b values log s st.0 st.1.0 st.1.1 n a in
         unsettled v r next g n st.1.0 (settle_held s).0 log e1 e2 o (place_of_goal values (Goal p) v g se o) k.0 k.1
     settle_by (Strided p) v r next g n st se e1 e2 o a =
         let k = settle_stops f b values log s st.0 st.1.0 st.1.1 n a in
         unsettled v r next g n st.1.0 (settle_held s).0 log e1 e2 o (place_of_goal values (Strided p) v g se o) k.0 k.1
-    settle_by Rules v r next g n st se e1 e2 o a = no_place g o
-    settle_by Done v r next g n st se e1 e2 o a = no_place g o
+    settle_by phase v r next g n st se e1 e2 o a = no_place g o
 
     -- a rule-out is refused
     rule_by : (phase : Phase) (k d : ℕ) (r : List ℕ) (next : Phase) (n : ℕ) (t : Holding) → Showing f b values log t
@@ -75,32 +71,16 @@ module _ (f b : List ℕ) (values : List Value) (log : List Ruled) where
     own_by Kinds (list ts) r next n st e1 e2 a x' =
         let k = list_stops f b values log s st.0 ts n x' in
         unmade (list ts) r next n (operate s (list ts)).0 log e1 e2 k.0 k.1
-    own_by Kinds (stride x y) r next n st e1 e2 a x' = none_not next e2
-    own_by Kinds (rule_out_field k d) r next n st e1 e2 a x' = none_not next e2
-    own_by Kinds end r next n st e1 e2 a x' = none_not next e2
-    own_by (Goal g) (kind x y z) r next n st e1 e2 a x' = none_not next e2
-    own_by (Goal g) (band x y) r next n st e1 e2 a x' = none_not next e2
-    own_by (Goal g) (list ts) r next n st e1 e2 a x' = none_not next e2
     own_by (Goal g) (stride x y) r next n st e1 e2 a x' =
         let k = stride_stops f b values log s st.0 st.1.0 st.1.1 st.1.2 x y n x' in
         unmade (stride x y) r next n (operate s (stride x y)).0 log e1 e2 k.0 k.1
     own_by (Goal g) (rule_out_field k d) r next n st e1 e2 a x' =
         rule_by (Goal g) k d r next n (settle_held s).0 (settle_shows f b values log s st.0 st.1.0 st.1.1 a) e1 e2 x'
-    own_by (Goal g) end r next n st e1 e2 a x' = never 0 n x'
-    own_by (Strided g) (kind x y z) r next n st e1 e2 a x' = none_not next e2
-    own_by (Strided g) (band x y) r next n st e1 e2 a x' = none_not next e2
-    own_by (Strided g) (list ts) r next n st e1 e2 a x' = none_not next e2
-    own_by (Strided g) (stride x y) r next n st e1 e2 a x' = none_not next e2
     own_by (Strided g) (rule_out_field k d) r next n st e1 e2 a x' =
         rule_by (Strided g) k d r next n (settle_held s).0 (settle_shows f b values log s st.0 st.1.0 st.1.1 a) e1 e2 x'
-    own_by (Strided g) end r next n st e1 e2 a x' = never 0 n x'
-    own_by Rules (kind x y z) r next n st e1 e2 a x' = none_not next e2
-    own_by Rules (band x y) r next n st e1 e2 a x' = none_not next e2
-    own_by Rules (list ts) r next n st e1 e2 a x' = none_not next e2
-    own_by Rules (stride x y) r next n st e1 e2 a x' = none_not next e2
     own_by Rules (rule_out_field k d) r next n st e1 e2 a x' = rule_by Rules k d r next n s st e1 e2 x'
-    own_by Rules end r next n st e1 e2 a x' = never 0 n x'
-    own_by Done v r next n st e1 e2 a x' = none_not next e2
+    own_by phase end r next n st e1 e2 a x' = never 0 n x'
+    own_by phase v r next n st e1 e2 a x' = none_not next e2
 
     settle_no : (phase : Phase) (v : Value) (r : List ℕ) (next : Phase) (g n : ℕ) → Stage f b phase values log s → reach Kinds 0 values ≡ Some phase
         → first rest ≡ got v r → follow phase q v ≡ Some next → owes phase v ≡ Some g → (desk s settled).1 ≡ refused n

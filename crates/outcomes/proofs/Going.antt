@@ -1,5 +1,5 @@
 -- Fields in sequence whose operations are all accepted lead from stage to stage.
-use Rattle.std.proofs.Common.{◌≡◌, ℕ, ◌+◌, List, [], ◌∷◌, ◌++◌, length, Some, None, sym, subst, append_assoc, append-nil, arith}
+use Rattle.std.proofs.Common.{◌≡◌, ℕ, ◌+◌, List, [], ◌∷◌, ◌++◌, length, Some, None, sym, subst, append_assoc, append-nil}
 use Rattle.fields.specs.Values.{Value, kind, band, list, stride, rule_out_field, end, field}
 use Rattle.sequence.specs.declared.phase.Phase.{Phase}
 use Rattle.sequence.specs.declared.phase.Phase.TheVariants.{Kinds, Goal, Strided, Rules, Done}
@@ -13,10 +13,7 @@ use Rattle.outcomes.proofs.Settles.{settle_shows}
 use Rattle.outcomes.proofs.Rules.{end_shows, rule_shows}
 
 pub none_not : {A : Type 0} (n : Phase) → None ≡ Some n → A
-none_not n e = let z : ◌≡◌ {A = ℕ} 0 1 = cc in absurd (omega (arith, z))
-
-pub same_phase : (m n : Phase) → Some m ≡ Some n → m ≡ n
-same_phase m n e = cc
+none_not n e = cc
 
 module _ (f b : List ℕ) where
   -- where the fields lead, with the operations still to come
@@ -39,7 +36,8 @@ module _ (f b : List ℕ) where
       → Stage f b phase us log s → reach phase p vs ≡ Some next → Leads vs phase p us s log next
   unfolding desk
   goes_on [] phase p us s log next st e a =
-      subst (λ (ph : Phase). Stage f b ph (us ++ []) (log ++ []) s) (same_phase phase next e)
+      let same : phase ≡ next = cc in
+      subst (λ (ph : Phase). Stage f b ph (us ++ []) (log ++ []) s) same
       (subst (λ (ws : List Value). Stage f b phase ws (log ++ []) s) (sym (append-nil us))
       (subst (λ (l : List Ruled). Stage f b phase us l s) (sym (append-nil log)) st))
   goes_on (kind x y z ∷ vs) Kinds p us s log next st e a =
@@ -51,12 +49,6 @@ module _ (f b : List ℕ) where
   goes_on (list ts ∷ vs) Kinds p us s log next st e a =
       plain next us (list ts) vs log _ _
       (goes_on vs (Goal p) (p + length (field (list ts))) (us ++ list ts ∷ []) (operate s (list ts)).0 log next (list_goes f b us log s st.0 p ts a.0) e a.1)
-  goes_on (stride x y ∷ vs) Kinds p us s log next st e a = none_not next e
-  goes_on (rule_out_field k d ∷ vs) Kinds p us s log next st e a = none_not next e
-  goes_on (end ∷ vs) Kinds p us s log next st e a = none_not next e
-  goes_on (kind x y z ∷ vs) (Goal g) p us s log next st e a = none_not next e
-  goes_on (band x y ∷ vs) (Goal g) p us s log next st e a = none_not next e
-  goes_on (list ts ∷ vs) (Goal g) p us s log next st e a = none_not next e
   goes_on (stride x y ∷ vs) (Goal g) p us s log next st e a =
       plain next us (stride x y) vs log _ _
       (goes_on vs (Strided g) (p + 7) (us ++ stride x y ∷ []) (operate s (stride x y)).0 log next
@@ -70,10 +62,6 @@ module _ (f b : List ℕ) where
       let sh = settle_shows f b us log s st.0 st.1.0 st.1.1 a.0 in
       plain next us end vs log _ _
       (goes_on vs Done (p + 3) (us ++ end ∷ []) (settle_held s).0 log next (end_shows f b us log (settle_held s).0 sh) e a.1)
-  goes_on (kind x y z ∷ vs) (Strided g) p us s log next st e a = none_not next e
-  goes_on (band x y ∷ vs) (Strided g) p us s log next st e a = none_not next e
-  goes_on (list ts ∷ vs) (Strided g) p us s log next st e a = none_not next e
-  goes_on (stride x y ∷ vs) (Strided g) p us s log next st e a = none_not next e
   goes_on (rule_out_field k d ∷ vs) (Strided g) p us s log next st e a =
       let sh = settle_shows f b us log s st.0 st.1.0 st.1.1 a.0 in
       moved next us (rule_out_field k d) vs log _ _ _
@@ -83,13 +71,9 @@ module _ (f b : List ℕ) where
       let sh = settle_shows f b us log s st.0 st.1.0 st.1.1 a.0 in
       plain next us end vs log _ _
       (goes_on vs Done (p + 3) (us ++ end ∷ []) (settle_held s).0 log next (end_shows f b us log (settle_held s).0 sh) e a.1)
-  goes_on (kind x y z ∷ vs) Rules p us s log next st e a = none_not next e
-  goes_on (band x y ∷ vs) Rules p us s log next st e a = none_not next e
-  goes_on (list ts ∷ vs) Rules p us s log next st e a = none_not next e
-  goes_on (stride x y ∷ vs) Rules p us s log next st e a = none_not next e
   goes_on (rule_out_field k d ∷ vs) Rules p us s log next st e a =
       moved next us (rule_out_field k d) vs log _ _ _
       (goes_on vs Rules (p + 5) (us ++ rule_out_field k d ∷ []) (operate s (rule_out_field k d)).0 _ next (rule_shows f b us log s st k d a.0) e a.1)
   goes_on (end ∷ vs) Rules p us s log next st e a =
       plain next us end vs log _ _ (goes_on vs Done (p + 3) (us ++ end ∷ []) s log next (end_shows f b us log s st) e a)
-  goes_on (v ∷ vs) Done p us s log next st e a = none_not next e
+  goes_on (v ∷ vs) phase p us s log next st e a = none_not next e

@@ -1,5 +1,5 @@
 -- What fields name, one more field at a time.
-use Rattle.std.proofs.Common.{◌≡◌, ℕ, ◌<◌, ◌≤◌, Bool, true, false, cond, ◌||◌, eqb, ltb, leb, List, [], ◌∷◌, ◌++◌, Some, None, Option, sym, refl, ap, ◌∙◌, append_assoc, arith}
+use Rattle.std.proofs.Common.{◌≡◌, ℕ, ◌<◌, ◌≤◌, Bool, false, cond, ◌||◌, eqb, ltb, leb, List, [], ◌∷◌, ◌++◌, Some, None, Option, sym, refl, ap, ◌∙◌, append_assoc, arith}
 use Rattle.std.proofs.lemmas.List.{map_push}
 use Rattle.std.proofs.lemmas.Bool.{ltb-false, eqb-false}
 use Rattle.model.specs.Answers.{Answer}
@@ -37,11 +37,8 @@ answers_more c r (y ∷ ys) x = ap (λ (l : List Answer). (step c r y).1 ∷ l) 
 
 -- a kind that may be added is within the limits
 tests : (a s d e : Bool) → cond {A = Option ℕ} a (Some 1) (cond (s || d) (Some 2) (cond e (Some 3) None)) ≡ None → (s ≡ false) × (d ≡ false) × (e ≡ false)
-tests true s d e h = absurd (let z : ◌≡◌ {A = ℕ} 0 1 = cc in omega arith)
-tests false true d e h = absurd (let z : ◌≡◌ {A = ℕ} 0 1 = cc in omega arith)
-tests false false true e h = absurd (let z : ◌≡◌ {A = ℕ} 0 1 = cc in omega arith)
-tests false false false true h = absurd (let z : ◌≡◌ {A = ℕ} 0 1 = cc in omega arith)
 tests false false false false h = (refl, refl, refl)
+tests a s d e h = cc
 
 pushed_more : (o : Option Kind) (xs ys : List Kind) → pushed o (xs ++ ys) ≡ pushed o xs ++ ys
 pushed_more None xs ys = refl

@@ -1,7 +1,7 @@
 -- Ruling out what a field names.
 use Rattle.std.proofs.Common.{◌≡◌, ℕ, ◌+◌, ◌-◌, ◌≤◌, Bool, true, false, cond, not, eqb, ltb, List, [], ◌∷◌, ◌++◌, length, get_or, None, Option, sym, refl, ap, ◌∙◌, subst, ap₂, append-nil, arith}
 use Rattle.std.proofs.lemmas.List.{map_push}
-use Rattle.std.proofs.lemmas.Bool.{false≢true, ltb-false, or_parts}
+use Rattle.std.proofs.lemmas.Bool.{ltb-false, or_parts}
 use Rattle.model.specs.Answers.{Answer, accepted, refuse, refused}
 use Rattle.model.specs.Sets.{has, held_in_all}
 use Rattle.meaning.specs.Cells.{over}
@@ -17,34 +17,25 @@ use Rattle.marking.proofs.Marked.{ahead_long, back_long}
 use Rattle.fields.specs.Values.{Value, rule_out_field, end}
 use Rattle.sequence.specs.declared.ruled.Ruled.{Ruled}
 use Rattle.sequence.specs.Words.{is_accepted, number}
+use Rattle.sequence.proofs.Passing.{accepted_is}
 use Rattle.reader.specs.Holding.{Holding, operate, rule_on, ruled_as}
 use Rattle.outcomes.specs.Named.{calls_named, kinds_named}
 use Rattle.outcomes.specs.Outcomes.{Showing}
+use Rattle.outcomes.proofs.Settles.{gone_said}
 use Rattle.outcomes.proofs.Naming.{after_more, answers_more, calls_more, goal_more, kinds_more}
-
--- the answer in a row
-abbrev gone_said : Ruled → Answer
-gone_said y = accepted y.gone
 
 -- a refused rule-out leaves the state
 four : {S : Type 0} (s t : S) (m n : ℕ) (x y z w : Bool)
     → (refuse s x 7 (refuse s y 10 (refuse s z 11 (refuse s w 8 (t, accepted m))))).1 ≡ refused n
     → (refuse s x 7 (refuse s y 10 (refuse s z 11 (refuse s w 8 (t, accepted m))))).0 ≡ s
-four s t m n true y z w e = refl
-four s t m n false true z w e = refl
-four s t m n false false true w e = refl
-four s t m n false false false true e = refl
-four s t m n false false false false e = absurd (let q : ◌≡◌ {A = ℕ} 0 1 = cc in omega arith)
+four s t m n false false false false e = cc
+four s t m n x y z w e = refl
 
 stays : (c : Problem) (s : State) (k d f b n : ℕ) → (does c s (rule_out k d f b)).1 ≡ refused n → (does c s (rule_out k d f b)).0 ≡ s
 stays c s k d f b n e =
     let rest : List (List ℕ) = without (k - 1) d (fitting c s.standing) in
     four s (record { standing = support (kinds_of c) rest; noted = s.noted }) (held_in_all s.standing - held_in_all (support (kinds_of c) rest)) n
     (short c f b) (not (in_range c k d)) (not (has (get_or s.standing (k - 1) 0) d)) (is_empty rest) e
-
-accepted_is : (a : Answer) → is_accepted a ≡ true → a ≡ accepted (number a)
-accepted_is (accepted n) e = refl
-accepted_is (refused n) e = absurd (false≢true e)
 
 module _ (c : Problem) (s : State) (r : Register) (sh : Shows c s r) where
   pub ahead_count : length (forward_marks (lives c s)) ≡ needed c

@@ -1,5 +1,5 @@
 -- Settling with what the fields name.
-use Rattle.std.proofs.Common.{◌≡◌, ℕ, Bool, true, false, List, map, length, Some, Option, sym, refl, ap, ◌∙◌, subst, arith}
+use Rattle.std.proofs.Common.{◌≡◌, ℕ, Bool, true, false, List, map, length, Some, Option, sym, refl, ap, ◌∙◌, subst}
 use Rattle.std.proofs.lemmas.Bool.{false≢true}
 use Rattle.model.specs.Answers.{Answer, accepted, option_as, refuse, refused}
 use Rattle.model.specs.Goals.{Target}
@@ -19,7 +19,7 @@ use Rattle.outcomes.specs.Outcomes.{SettleRefused, Showing, Waiting, left_by}
 use Rattle.outcomes.proofs.Stages.{Unset}
 
 -- the answer in a row
-abbrev gone_said : Ruled → Answer
+abbrev pub gone_said : Ruled → Answer
 gone_said y = accepted y.gone
 
 -- what is held, part by part
@@ -41,16 +41,12 @@ pub record Through {S : Type 0} (s t : S) (n : ℕ) (x y z : Bool) : Type 0 wher
   pub is : three s t n x y z ≡ (t, accepted n)
 
 through : {S : Type 0} (s t : S) (n : ℕ) (x y z : Bool) → is_accepted (three s t n x y z).1 ≡ true → Through s t n x y z
-through s t n true y z a = absurd (false≢true a)
-through s t n false true z a = absurd (false≢true a)
-through s t n false false true a = absurd (false≢true a)
 through s t n false false false a = record { second = refl; third = refl; is = refl }
+through s t n x y z a = absurd (false≢true a)
 
 stopped : {S : Type 0} (s t : S) (n : ℕ) (x y z : Bool) (k : ℕ) → (three s t n x y z).1 ≡ refused k → three s t n x y z ≡ (s, refused k)
-stopped {S = S} s t n true y z k e = ap (λ (a : Answer). (s, a)) e
-stopped {S = S} s t n false true z k e = ap (λ (a : Answer). (s, a)) e
-stopped {S = S} s t n false false true k e = ap (λ (a : Answer). (s, a)) e
-stopped {S = S} s t n false false false k e = absurd (let z : ◌≡◌ {A = ℕ} 0 1 = cc in omega arith)
+stopped s t n false false false k e = cc
+stopped {S = S} s t n x y z k e = ap (λ (a : Answer). (s, a)) e
 
 module _ (f b : List ℕ) (us : List Value) (log : List Ruled) (h : Holding) (u : Unset f b us log h) (t : Target) (named : goal_named us ≡ Some t) where
   abbrev c : Problem

@@ -1,6 +1,6 @@
 -- What the goal that a file names means.
-use Rattle.std.specs.Prelude.{take}
 use Rattle.model.specs.Goals.{Target, between, one_of, strided}
+use Rattle.model.specs.ListGoals.{totals_in}
 use Rattle.reader.specs.declared.goal.Named.{Named}
 use Rattle.reader.specs.declared.goal.Named.TheVariants.{Band, List as Totals}
 use Rattle.reader.specs.declared.goal.FileGoal.{FileGoal}
@@ -9,7 +9,7 @@ use Rattle.reader.specs.declared.goal.FileGoal.TheVariants.{Plain, Strided}
 -- the totals of a band or of a list
 abbrev pub named_target : Named → Target
 named_target (Band b) = between b.low b.high
-named_target (Totals l) = one_of (take l.listed.many l.listed.totals)
+named_target (Totals l) = one_of (totals_in l)
 
 -- the same, under a stride or not
 abbrev pub file_target : FileGoal → Target

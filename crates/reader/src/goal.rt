@@ -15,6 +15,7 @@ pub enum Named {
     List(TotalList),
 }
 
+// The variants' names say which fields a file has, so this is no general type for one of two goals.
 impl Goal for Named {
     ghost means = { named_target };
 
@@ -44,6 +45,7 @@ pub enum FileGoal {
     Strided(Stride<Named>),
 }
 
+// Likewise: the names say whether the file has a stride.
 impl Goal for FileGoal {
     ghost means = { file_target };
 

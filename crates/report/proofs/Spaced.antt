@@ -1,34 +1,22 @@
--- Counts written one after the other.
-use Rattle.std.proofs.Common.{◌≡◌, ℕ, ◌+◌, ◌<◌, cond, List, [], ◌∷◌, ◌++◌, map, length, get_or, take, codes, decimal, filter, sym, refl, ap, ◌∙◌, append_assoc, arith}
+-- Counts of a set, written one after the other.
+use Rattle.std.proofs.Common.{◌≡◌, ℕ, ◌+◌, true, false, cond, [], ◌∷◌, ◌++◌, filter, codes, decimal, append-nil, arith}
 use Rattle.std.specs.List.{range_with_len}
-use Rattle.std.proofs.lemmas.List.FromFn.{map-range_with_len_more}
-use Rattle.std.proofs.lemmas.List.Elements.{filter-append}
-use Rattle.std.proofs.lemmas.List.{take_more}
+use Rattle.std.proofs.lemmas.Grind.{flat_map-append}
+use Rattle.std.proofs.lemmas.List.{map-id}
+use Rattle.std.proofs.lemmas.List.FromFn.{filter_of_map_range_with_len_more}
 use Rattle.model.specs.Sets.{counts, has, members}
 use Rattle.report.specs.Lines.{spaced}
 
-spaced_more : (xs ys : List ℕ) → spaced (xs ++ ys) ≡ spaced xs ++ spaced ys
-spaced_more [] ys = refl
-spaced_more (x ∷ xs) ys = ap (λ (l : List ℕ). (codes " " ++ decimal x) ++ l) (spaced_more xs ys) ∙ sym (append_assoc (codes " " ++ decimal x) (spaced xs) (spaced ys))
+-- the counts below d that are in a set, and one more
+filter_more : (set d : ℕ) → filter (has set) (range_with_len 0 (d + 1)) ≡ filter (has set) (range_with_len 0 d) ++ cond (has set d) (d ∷ []) []
+filter_more set d = simp map-id at (filter_of_map_range_with_len_more (has set) (λ x. x) 0 d d (omega arith))
 
--- one count more of a load
-pub load_more : (xs : List ℕ) (i : ℕ) → i < length xs → spaced (take i xs) ++ spaced (get_or xs i 0 ∷ []) ≡ spaced (take (i + 1) xs)
-load_more xs i h = sym (spaced_more (take i xs) (get_or xs i 0 ∷ [])) ∙ ap spaced (sym (take_more xs i 0 h))
+pub member_more : (set d : ℕ) → has set d ≡ true → spaced (filter (has set) (range_with_len 0 d)) ++ (codes " " ++ decimal d) ≡ spaced (filter (has set) (range_with_len 0 (d + 1)))
+member_more set d h = rw (filter_more set d, flat_map-append, h) (simp append-nil)
 
-counting_more : (a n : ℕ) → range_with_len a (n + 1) ≡ range_with_len a n ++ (a + n) ∷ []
-counting_more a n = sym (same (range_with_len a (n + 1))) ∙ (map-range_with_len_more (λ x. x) a n (a + n) refl ∙ ap (λ l. l ++ (a + n) ∷ []) (same (range_with_len a n)))
-  where
-    same : (xs : List ℕ) → map (λ x. x) xs ≡ xs
-    same [] = refl
-    same (x ∷ xs) = ap (λ l. x ∷ l) (same xs)
+pub other_more : (set d : ℕ) → has set d ≡ false → spaced (filter (has set) (range_with_len 0 d)) ≡ spaced (filter (has set) (range_with_len 0 (d + 1)))
+other_more set d h = rw (filter_more set d, h) (simp append-nil)
 
--- one count more of a set, if it is in it
-pub set_more : (set d : ℕ) → spaced (filter (has set) (range_with_len 0 d)) ++ spaced (cond (has set d) (d ∷ []) []) ≡ spaced (filter (has set) (range_with_len 0 (d + 1)))
-set_more set d =
-    let z : 0 + d ≡ d = omega arith in
-    sym (spaced_more (filter (has set) (range_with_len 0 d)) (cond (has set d) (d ∷ []) []))
-    ∙ ap spaced (sym (ap (filter (has set)) (counting_more 0 d ∙ ap (λ (n : ℕ). range_with_len 0 d ++ n ∷ []) z) ∙ filter-append (has set) (range_with_len 0 d) (d ∷ [])))
-
-pub set_all : (set d : ℕ) → d ≡ 64 → filter (has set) (range_with_len 0 d) ≡ members set
+pub all_members : (set d : ℕ) → d ≡ 64 → spaced (filter (has set) (range_with_len 0 d)) ≡ spaced (members set)
 unfolding counts
-set_all set d e = ap (λ (n : ℕ). filter (has set) (range_with_len 0 n)) e
+all_members set d e = rw e

@@ -1,6 +1,6 @@
 // The lines, each as a type that shows it.
 ghost use Rattle.std.specs.Prelude.{Some};
-ghost use Rattle.report.specs.Lines.{first_line, highest_line, kind_line, loads_line, lowest_line, plan_line, ruled_line};
+ghost use Rattle.report.specs.Lines.{first_line, kind_line, plan_line, ruled_line, tally_line, tally_word};
 
 use crate::counts::{LoadCounts, SetCounts};
 use sequence::ruled::Ruled;
@@ -55,42 +55,43 @@ impl fmt::Display for KindLine {
     }
 }
 
-// The number of loads.
+// What is tallied over the loads.
 #[derive(Clone, Copy)]
-pub struct LoadsLine(pub u32);
+pub enum Tally {
+    // How many they are.
+    Loads,
+    // The lowest price of one.
+    Lowest,
+    // The highest price of one.
+    Highest,
+}
 
-impl fmt::Display for LoadsLine {
-    ghost output = { λ x. Some (loads_line x.0) };
+impl fmt::Display for Tally {
+    ghost output = { λ t. Some (tally_word t) };
 
     fn fmt<W: fmt::Write>(&self, f: &mut fmt::Formatter<W>) -> fmt::Result {
-        let loads = self.0;
-        write!(f, "loads {loads}")
+        match self {
+            Tally::Loads => write!(f, "loads"),
+            Tally::Lowest => write!(f, "lowest"),
+            Tally::Highest => write!(f, "highest"),
+        }
     }
 }
 
-// The lowest price of a load.
+// What is tallied, and what it comes to.
 #[derive(Clone, Copy)]
-pub struct LowestLine(pub u32);
-
-impl fmt::Display for LowestLine {
-    ghost output = { λ x. Some (lowest_line x.0) };
-
-    fn fmt<W: fmt::Write>(&self, f: &mut fmt::Formatter<W>) -> fmt::Result {
-        let price = self.0;
-        write!(f, "lowest {price}")
-    }
+pub struct TallyLine {
+    pub what: Tally,
+    pub value: u32,
 }
 
-// The highest price of a load.
-#[derive(Clone, Copy)]
-pub struct HighestLine(pub u32);
-
-impl fmt::Display for HighestLine {
-    ghost output = { λ x. Some (highest_line x.0) };
+impl fmt::Display for TallyLine {
+    ghost output = { λ x. Some (tally_line x.what x.value) };
 
     fn fmt<W: fmt::Write>(&self, f: &mut fmt::Formatter<W>) -> fmt::Result {
-        let price = self.0;
-        write!(f, "highest {price}")
+        let what = self.what;
+        let value = self.value;
+        write!(f, "{what} {value}")
     }
 }
 

@@ -1,5 +1,5 @@
 -- How a run that did not pass ended.
-use Rattle.std.proofs.Common.{◌≡◌, ℕ, true, false, List, [], ◌∷◌, ◌++◌, Some, None, Option, sym, refl, ap, ◌∙◌, subst, append_assoc, arith}
+use Rattle.std.proofs.Common.{◌≡◌, ℕ, true, false, List, [], ◌∷◌, ◌++◌, Some, None, Option, sym, refl, ap, ◌∙◌, subst, append_assoc}
 use Rattle.std.specs.List.{AllByRecursion}
 use Rattle.fields.specs.Values.{Value, field, write, Fine}
 use Rattle.fields.specs.Reading.{got, first, Stop, broken, closed, Left}
@@ -11,12 +11,9 @@ use Rattle.sequence.specs.declared.ruled.Ruled.{Ruled}
 use Rattle.model.specs.Answers.{Answer, accepted, refused}
 use Rattle.sequence.specs.Machines.{Machine, acting, settling}
 use Rattle.sequence.specs.Sequence.{follow, owes, is_done}
-use Rattle.sequence.specs.Running.{noted, goes, stops, operated, goal_place, settled_first, in_sequence, turn, Outcome, stopped}
+use Rattle.sequence.specs.Running.{stops, operated, goal_place, settled_first, in_sequence, turn, Outcome, stopped}
 use Rattle.sequence.specs.Words.{is_accepted, FaultAt, unread, beyond, unfit, unsettled, undone}
 use Rattle.sequence.proofs.Tracks.{Ending}
-
-goes_not : {A S : Type 0} (f : Fault) (s t : S) (log log' : List Ruled) (n : Phase) → goes n t log' ≡ stops f s log → A
-goes_not f s t log log' n e = let z : ◌≡◌ {A = ℕ} 0 1 = cc in absurd (omega (arith, z))
 
 -- the same fault
 same : {S : Type 0} (m : Machine S) (n : Phase) (q : ℕ) (rest : List ℕ) (s : S) (x y : Fault) (t u : S) (log log' : List Ruled)
@@ -29,14 +26,14 @@ same {S = S} m n q rest s x y t u log log' e f =
 op_fault : {S : Type 0} (m : Machine S) (n to : Phase) (q : ℕ) (v : Value) (rest r : List ℕ) (s : S) (log : List Ruled) (x : Fault) (t : S) (log' : List Ruled) (a : Answer)
     → first rest ≡ got v r → follow n q v ≡ Some to → is_accepted (settling m s (owes n v)).1 ≡ true → (acting m (settling m s (owes n v)).0 v).1 ≡ a
     → operated to q v log (acting m (settling m s (owes n v)).0 v).0 a ≡ stops x t log' → FaultAt m n q rest s x t × (log' ≡ log)
-op_fault m n to q v rest r s log x t log' (accepted k) f w z a e = goes_not x t (acting m (settling m s (owes n v)).0 v).0 log' (noted v k log) to e
+op_fault m n to q v rest r s log x t log' (accepted k) f w z a e = cc
 op_fault m n to q v rest r s log x t log' (refused k) f w z a e =
     same m n q rest s x (fault_in_plan q k) t (acting m (settling m s (owes n v)).0 v).0 log log' e (undone v r to k f w z a)
 
 owed_fault : {S : Type 0} (m : Machine S) (n to : Phase) (q : ℕ) (v : Value) (rest r : List ℕ) (s : S) (g : Option ℕ) (k : ℕ)
     → first rest ≡ got v r → follow n q v ≡ Some to → owes n v ≡ g → (settling m s g).1 ≡ refused k
     → FaultAt m n q rest s (fault_in_plan (goal_place g) k) (settling m s g).0
-owed_fault m n to q v rest r s None k f w o a = let z : ◌≡◌ {A = ℕ} 0 1 = cc in absurd (omega (arith, z))
+owed_fault m n to q v rest r s None k f w o a = cc
 owed_fault m n to q v rest r s (Some g) k f w o a = unsettled v r to g k f w o a
 
 settle_fault : {S : Type 0} (m : Machine S) (n to : Phase) (q : ℕ) (v : Value) (rest r : List ℕ) (s : S) (log : List Ruled) (x : Fault) (t : S) (log' : List Ruled) (a : Answer)
@@ -65,7 +62,7 @@ stop_fault : {S : Type 0} (m : Machine S) (stop : Stop) (n : Phase) (q : ℕ) (r
     → stopped stop q ≡ Some x → Left stop rest → Closes stop n → FaultAt m n q rest s x s
 stop_fault m (broken c) n q rest s x e l d =
     let a : ◌≡◌ {A = Fault} (fault_in_field q (cause_number c)) x = cc in subst (λ (z : Fault). FaultAt m n q rest s z s) a (unread c d l)
-stop_fault m (closed []) n q rest s x e l d = let z : ◌≡◌ {A = ℕ} 0 1 = cc in absurd (omega (arith, z))
+stop_fault m (closed []) n q rest s x e l d = cc
 stop_fault m (closed (y ∷ ys)) n q rest s x e l d =
     let a : ◌≡◌ {A = Fault} (out_of_sequence q) x = cc in subst (λ (z : Fault). FaultAt m n q rest s z s) a (beyond y ys d l)
 
@@ -89,15 +86,12 @@ ending_fault {S = S} m stop n q (v ∷ ws) s log x t log' rest e l d fine =
 
 -- a run without fault ended at the end of the file
 pub stop_none : (stop : Stop) (q : ℕ) → stopped stop q ≡ None → stop ≡ closed []
-stop_none (broken c) q e = let z : ◌≡◌ {A = ℕ} 0 1 = cc in absurd (omega (arith, z))
 stop_none (closed []) q e = refl
-stop_none (closed (y ∷ ys)) q e = let z : ◌≡◌ {A = ℕ} 0 1 = cc in absurd (omega (arith, z))
+stop_none stop q e = cc
 
 pub ending_none : {S : Type 0} (m : Machine S) (stop : Stop) (n : Phase) (q : ℕ) (ws : List Value) (s : S) (log : List Ruled) (t : S) (log' : List Ruled)
     → Ending m stop n q ws s log (record { fault = None; state = t; answers = log' }) → (ws ≡ []) × (stop ≡ closed []) × (t ≡ s) × (log' ≡ log)
 ending_none {S = S} m stop n q [] s log t log' e =
     (refl, stop_none stop q (sym (ap (λ (o : Outcome S). o.fault) e)), ap (λ (o : Outcome S). o.state) e, ap (λ (o : Outcome S). o.answers) e)
 ending_none {S = S} m stop n q (v ∷ ws) s log t log' e =
-    let k : None ≡ Some e.0 = ap (λ (o : Outcome S). o.fault) e.4 in
-    let z : ◌≡◌ {A = ℕ} 0 1 = cc in
-    absurd (omega (arith, z))
+    let k : None ≡ Some e.0 = ap (λ (o : Outcome S). o.fault) e.4 in absurd cc

@@ -1,6 +1,6 @@
 -- A run as a list of fields that passed and how it ended.
 use Rattle.std.proofs.Common.{◌≡◌, ℕ, ◌+◌, List, [], ◌∷◌, ◌++◌, length, Some, None, Option, sym, refl, ap, ◌∙◌, subst, append_assoc, append-nil, arith, length-append}
-use Rattle.fields.specs.Values.{Value, kind, band, list, stride, rule_out_field, end, field, write}
+use Rattle.fields.specs.Values.{Value, rule_out_field, end, field, write}
 use Rattle.fields.specs.Reading.{Stop}
 use Rattle.faults.specs.Faults.{Fault}
 use Rattle.sequence.specs.declared.phase.Phase.{Phase}
@@ -18,12 +18,8 @@ pub record Leads {S : Type 0} (m : Machine S) (s : S) (log : List Ruled) (f : Li
   pub notes : (cs : List Operation) → log ++ ruled_by m s (f cs) ≡ log' ++ ruled_by m t cs
 
 noted_more : (v : Value) (n : ℕ) (log : List Ruled) → noted v n log ≡ log ++ noted v n []
-noted_more (kind size price counts) n log = sym (append-nil log)
-noted_more (band low high) n log = sym (append-nil log)
-noted_more (list totals) n log = sym (append-nil log)
-noted_more (stride modulus rest) n log = sym (append-nil log)
 noted_more (rule_out_field k d) n log = refl
-noted_more end n log = sym (append-nil log)
+noted_more v n log = sym (append-nil log)
 
 leads_settle : {S : Type 0} (m : Machine S) (g : Option ℕ) (s : S) (log : List Ruled) (n : ℕ) → (settling m s g).1 ≡ accepted n → Leads m s log (due g) (settling m s g).0 log
 leads_settle m None s log n e = record { accepts = λ cs h. h; ends = λ cs. refl; notes = λ cs. refl }
@@ -43,12 +39,8 @@ leads_op m v s log n e =
 
 leads_own : {S : Type 0} (m : Machine S) (v : Value) (s : S) (log : List Ruled) (n : ℕ) → (acting m s v).1 ≡ accepted n
     → Leads m s log (own v) (acting m s v).0 (noted v n log)
-leads_own m (kind size price counts) s log n e = leads_op m (kind size price counts) s log n e
-leads_own m (band low high) s log n e = leads_op m (band low high) s log n e
-leads_own m (list totals) s log n e = leads_op m (list totals) s log n e
-leads_own m (stride modulus rest) s log n e = leads_op m (stride modulus rest) s log n e
-leads_own m (rule_out_field k d) s log n e = leads_op m (rule_out_field k d) s log n e
 leads_own m end s log n e = record { accepts = λ cs h. h; ends = λ cs. refl; notes = λ cs. refl }
+leads_own m v s log n e = leads_op m v s log n e
 
 leads_both : {S : Type 0} (m : Machine S) (f h : List Operation → List Operation) (s t u : S) (log log' log'' : List Ruled)
     → Leads m s log f t log' → Leads m t log' h u log'' → Leads m s log (λ cs. f (h cs)) u log''
@@ -64,9 +56,6 @@ pub record Passed {S : Type 0} (m : Machine S) (phase : Phase) (p : ℕ) (v : Va
   pub follows : follow phase p v ≡ Some next
   pub leads : Leads m s log (λ cs. due (owes phase v) (own v cs)) t log'
 
-stops_not : {A S : Type 0} (f : Fault) (s t : S) (log log' : List Ruled) (n : Phase) → stops f s log ≡ goes n t log' → A
-stops_not f s t log log' n e = let z : ◌≡◌ {A = ℕ} 0 1 = cc in absurd (omega (arith, z))
-
 passed_op : {S : Type 0} (m : Machine S) (to next : Phase) (p : ℕ) (v : Value) (g : Option ℕ) (s s1 t : S) (log log' : List Ruled) (a : Answer)
     → (acting m s1 v).1 ≡ a → Leads m s log (due g) s1 log → operated to p v log (acting m s1 v).0 a ≡ goes next t log'
     → (to ≡ next) × Leads m s log (λ cs. due g (own v cs)) t log'
@@ -78,18 +67,18 @@ passed_op {S = S} m to next p v g s s1 t log log' (accepted n) a l e =
           (subst (λ (k : List Ruled). Leads m s log (λ cs. due g (own v cs)) (acting m s1 v).0 k) lg
           (leads_both m (due g) (own v) s s1 (acting m s1 v).0 log log (noted v n log) l (leads_own m v s1 log n a))),
     )
-passed_op m to next p v g s s1 t log log' (refused n) a l e = stops_not _ (acting m s1 v).0 t log log' next e
+passed_op m to next p v g s s1 t log log' (refused n) a l e = cc
 
 passed_settle : {S : Type 0} (m : Machine S) (to next : Phase) (p : ℕ) (v : Value) (g : Option ℕ) (s t : S) (log log' : List Ruled) (a : Answer)
     → (settling m s g).1 ≡ a → settled_first m to p v log g (settling m s g).0 a ≡ goes next t log'
     → (to ≡ next) × Leads m s log (λ cs. due g (own v cs)) t log'
 passed_settle m to next p v g s t log log' (accepted n) a e =
     passed_op m to next p v g s (settling m s g).0 t log log' (acting m (settling m s g).0 v).1 refl (leads_settle m g s log n a) e
-passed_settle m to next p v g s t log log' (refused n) a e = stops_not _ (settling m s g).0 t log log' next e
+passed_settle m to next p v g s t log log' (refused n) a e = cc
 
 passed_in : {S : Type 0} (m : Machine S) (next : Phase) (p : ℕ) (v : Value) (g : Option ℕ) (s t : S) (log log' : List Ruled) (o : Option Phase)
     → in_sequence m p v s log g o ≡ goes next t log' → (o ≡ Some next) × Leads m s log (λ cs. due g (own v cs)) t log'
-passed_in m next p v g s t log log' None e = stops_not _ s t log log' next e
+passed_in m next p v g s t log log' None e = cc
 passed_in m next p v g s t log log' (Some to) e =
     let w = passed_settle m to next p v g s t log log' (settling m s g).1 refl e in (ap Some w.0, w.1)
 

@@ -19,9 +19,6 @@ use Rattle.sequence.proofs.Calling.{calls_in_lem, done_is, reach_last, reach_ope
 use Rattle.sequence.proofs.Faulting.{Closes, ending_fault, ending_none}
 use Rattle.sequence.proofs.Passing.{runs_all, lasts, write_append, fine_front, fine_back, fields_whole}
 
-none_some : {A : Type 0} (x : Fault) → None ≡ Some x → A
-none_some x e = let z : ◌≡◌ {A = ℕ} 0 1 = cc in absurd (omega (arith, z))
-
 -- the phase where all fields that were read have passed
 closes : (stop : Stop) (vs : List Value) (n : Phase) → Ends stop vs → reach Kinds 0 vs ≡ Some n → Closes stop n
 closes (broken c) vs n h r = reach_open vs Kinds n 0 refl h r
@@ -36,9 +33,13 @@ module _ {S : Type 0} (m : Machine S) (file : List ℕ) (s t : S) (log : List Ru
       → ◌≡◌ {A = Outcome S} (record { fault = Some too_long; state = s; answers = [] }) (record { fault = f; state = t; answers = log })
   long f h e = sym (cond-true (ltb 16384 (length file)) _ _ (lt-ltb 16384 (length file) h)) ∙ e
 
+  tracked : (f : Option Fault) → length file ≤ 16384 → outcome m s file ≡ record { fault = f; state = t; answers = log }
+      → Track m (fields file).stop (fields file).values Kinds 0 s [] (record { fault = f; state = t; answers = log })
+  tracked f h e =
+      subst (Track m (fields file).stop (fields file).values Kinds 0 s []) (short f h e) (track m (fields file).stop (fields file).values Kinds 0 s [])
+
   completed_at : Track m (fields file).stop (fields file).values Kinds 0 s [] (record { fault = None; state = t; answers = log }) → Completed m file s t log
   completed_at r =
-      let vs = (fields file).values in
       let w = wrote file by in
       let n = ending_none m (fields file).stop r.next r.q r.ws r.t r.log' t log r.ending in
       let us : r.us ≡ (fields file).values = sym (r.parts ∙ (ap (λ (x : List Value). r.us ++ x) n.0 ∙ append-nil r.us)) in
@@ -57,14 +58,11 @@ module _ {S : Type 0} (m : Machine S) (file : List ℕ) (s t : S) (log : List Ru
         answers = n.3 ∙ (r.notes ∙ ap (ruled_by m s) cs);
       }
 
-  done_of : (f : Option Fault) → outcome m s file ≡ record { fault = f; state = t; answers = log } → f ≡ None → Completed m file s t log
-  done_of f e n =
+  done_of : outcome m s file ≡ record { fault = None; state = t; answers = log } → Completed m file s t log
+  done_of e =
       elim (cases_lt 16384 (length file)) [
-        | inl h ↦ none_some too_long (sym n ∙ sym (ap (λ (o : Outcome S). o.fault) (long f h e)))
-        | inr h ↦
-            completed_at
-            (subst (Track m (fields file).stop (fields file).values Kinds 0 s []) (short f h e ∙ ap (λ (x : Option Fault). record { fault = x; state = t; answers = log }) n)
-            (track m (fields file).stop (fields file).values Kinds 0 s []))
+        | inl h ↦ let a = ap (λ (o : Outcome S). o.fault) (long None h e) in absurd cc
+        | inr h ↦ completed_at (tracked None h e)
       ]
 
   faulted_at : (x : Fault) → Track m (fields file).stop (fields file).values Kinds 0 s [] (record { fault = Some x; state = t; answers = log }) → Faulted m file s x t log
@@ -91,19 +89,14 @@ module _ {S : Type 0} (m : Machine S) (file : List ℕ) (s t : S) (log : List Ru
             (subst (λ (u : S). FaultAt m r.next r.q (write r.ws ++ w.0) u x t) r.state f.0);
       }
 
-  fault_of_lem : (f : Option Fault) → outcome m s file ≡ record { fault = f; state = t; answers = log }
-      → (x : Fault) → f ≡ Some x → TooMany m file s x t log ⊎ Faulted m file s x t log
-  fault_of_lem f e x n =
+  fault_of_lem : (x : Fault) → outcome m s file ≡ record { fault = Some x; state = t; answers = log } → TooMany m file s x t log ⊎ Faulted m file s x t log
+  fault_of_lem x e =
       elim (cases_lt 16384 (length file)) [
         | inl h ↦
-            let k = long f h e in
-            let a : Some too_long ≡ Some x = ap (λ (o : Outcome S). o.fault) k ∙ n in
+            let k = long (Some x) h e in
+            let a = ap (λ (o : Outcome S). o.fault) k in
             inl (record { long = h; fault = cc; state = sym (ap (λ (o : Outcome S). o.state) k); answers = sym (ap (λ (o : Outcome S). o.answers) k) })
-        | inr h ↦
-            inr
-            (faulted_at x
-            (subst (Track m (fields file).stop (fields file).values Kinds 0 s []) (short f h e ∙ ap (λ (y : Option Fault). record { fault = y; state = t; answers = log }) n)
-            (track m (fields file).stop (fields file).values Kinds 0 s [])))
+        | inr h ↦ inr (faulted_at x (tracked (Some x) h e))
       ]
 
   whole_of : (f : Option Fault) → outcome m s file ≡ record { fault = f; state = t; answers = log }
@@ -118,4 +111,11 @@ module _ {S : Type 0} (m : Machine S) (file : List ℕ) (s t : S) (log : List Ru
 pub ran : {S : Type 0} (m : Machine S) (file : List ℕ) (s : S) (f : Option Fault) (t : S) (log : List Ruled) → Bytes file
     → outcome m s file ≡ record { fault = f; state = t; answers = log } → Ran m file s f t log
 ran m file s f t log by e =
-    record { ends = e; done = done_of m file s t log by f e; faults = fault_of_lem m file s t log by f e; whole = whole_of m file s t log by f e }
+    let at : (g : Option Fault) → f ≡ g → outcome m s file ≡ record { fault = g; state = t; answers = log } =
+    λ g n. e ∙ ap (λ (x : Option Fault). record { fault = x; state = t; answers = log }) n in
+    record {
+      ends = e;
+      done = λ n. done_of m file s t log by (at None n);
+      faults = λ x n. fault_of_lem m file s t log by x (at (Some x) n);
+      whole = whole_of m file s t log by f e;
+    }

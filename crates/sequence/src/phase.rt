@@ -47,9 +47,6 @@ impl Phase {
     pub fn is_done(self) -> bool
         ensures { result ≡ is_done self }
     {
-        match self {
-            Phase::Done => true,
-            _ => false,
-        }
+        matches!(self, Phase::Done)
     }
 }

@@ -1,11 +1,12 @@
 // The calls of the list of answers.
-ghost use Rattle.std.specs.Prelude.{◌≡◌, ◌<◌, []};
+ghost use Rattle.std.specs.Prelude.{◌≡◌, ◌<◌, [], length};
 ghost use Rattle.fields.specs.Reading.{said};
 ghost use Rattle.sequence.specs.Running.{noted};
 ghost use Rattle.casefile.specs.Listed.{listed};
 
 use crate::answers::Answers;
 use fields::field::Field;
+use fixed_list::FixedList;
 use sequence::ruled::Ruled;
 
 impl Answers {
@@ -14,8 +15,7 @@ impl Answers {
         ensures { listed result ≡ [] }
     {
         Answers {
-            rows: [Ruled::new(0, 0, 0); 3277],
-            many: 0,
+            rows: FixedList::new(Ruled::new(0, 0, 0)),
         }
     }
 
@@ -23,25 +23,23 @@ impl Answers {
     pub fn as_slice(&self) -> &[Ruled]
         ensures { result.now ≡ listed self.now }
     {
-        &self.rows[..self.many]
+        self.rows.as_slice()
     }
 
     // Forgets the answers.
     pub fn clear(&mut self)
-        ensures list { listed self.new ≡ [] }
-        ensures none { self.new.many ≡ 0 }
+        ensures { listed self.new ≡ [] }
     {
-        self.many = 0;
+        self.rows.clear();
     }
 
     // Notes the answer of a rule-out; other fields leave no note.
     pub(crate) fn note(&mut self, field: Field<'_>, answer: u64)
-        requires { self.old.many < 3277 }
+        requires { length (listed self.old) < 3277 }
         ensures { listed self.new ≡ noted (said field.entry) answer (listed self.old) }
     {
         if let Field::RuleOut { kind, count } = field {
-            self.rows[self.many] = Ruled::new(kind, count, answer);
-            self.many += 1;
+            self.rows.push(Ruled::new(kind, count, answer));
         }
     }
 }

@@ -20,10 +20,7 @@ use plan::plan::Plan;
 fn widened(answer: Result<u32, Refusal>) -> Result<u64, Refusal>
     ensures { answer_of result ≡ answer_of answer }
 {
-    match answer {
-        Ok(n) => Ok(u64::from(n)),
-        Err(refusal) => Err(refusal),
-    }
+    answer.map(u64::from)
 }
 
 impl Reader {
@@ -63,42 +60,32 @@ impl Reader {
     fn take_goal(&mut self, made: Result<Named, Refusal>) -> Result<u64, Refusal>
         ensures { (f b : List ℕ) → (seen self.new f b, answer_of result) ≡ goal_made (seen self.old f b) (outcome_as named_target made) }
     {
-        match made {
-            Err(refusal) => Err(refusal),
-            Ok(goal) => {
-                self.goal = Some(goal);
-                self.plan = Some(Plan::blank(FileGoal::Plain(goal)));
-                Ok(0)
-            }
-        }
+        let goal = made?;
+        self.goal = Some(goal);
+        self.plan = Some(Plan::blank(FileGoal::Plain(goal)));
+        Ok(0)
     }
 
     // Makes the stride over the band or list, with a blank plan over it.
     fn take_stride(&mut self, modulus: u16, remainder: u16) -> Result<u64, Refusal>
         ensures { (f b : List ℕ) → (seen self.new f b, answer_of result) ≡ operated (seen self.old f b) (strideField modulus remainder) }
     {
-        let Some(goal) = self.goal else {
-            return Err(Refusal::WrongStage);
-        };
-        match Stride::over(goal, u64::from(modulus), u64::from(remainder)) {
-            Err(back) => Err(back.refusal()),
-            Ok(stride) => {
-                self.plan = Some(Plan::blank(FileGoal::Strided(stride)));
-                Ok(0)
-            }
-        }
+        let goal = self.goal.ok_or(Refusal::WrongStage)?;
+        let stride = Stride::over(goal, u64::from(modulus), u64::from(remainder)).map_err(
+            |back| back.refusal(),
+        )?;
+        self.plan = Some(Plan::blank(FileGoal::Strided(stride)));
+        Ok(0)
     }
 
     // Settles the plan with the case.
     pub fn settle(&mut self, forward: &mut [u8], backward: &mut [u8]) -> Result<u64, Refusal>
         ensures { (seen self.new forward.new backward.new, answer_of result) ≡ settle_held (seen self.old forward.old backward.old) }
     {
-        let Some(mut plan) = self.plan.take() else {
+        let Some(plan) = &mut self.plan else {
             return Err(Refusal::WrongStage);
         };
-        let answer = plan.settle(&self.case, forward, backward);
-        self.plan = Some(plan);
-        widened(answer)
+        widened(plan.settle(&self.case, forward, backward))
     }
 
     // Rules out a count of the plan.
@@ -111,12 +98,10 @@ impl Reader {
     ) -> Result<u64, Refusal>
         ensures { (seen self.new forward.new backward.new, answer_of result) ≡ operated (seen self.old forward.old backward.old) (ruleOutField kind count) }
     {
-        let Some(mut plan) = self.plan.take() else {
+        let Some(plan) = &mut self.plan else {
             return Err(Refusal::WrongStage);
         };
-        let answer = plan.rule_out(u64::from(kind), u64::from(count), forward, backward);
-        self.plan = Some(plan);
-        widened(answer)
+        widened(plan.rule_out(u64::from(kind), u64::from(count), forward, backward))
     }
 
     // The operation of a field; the end has none.

@@ -8,14 +8,8 @@ returns-then-many-gt-MOST_LISTED c =
     let bs = c.args.part.now in
     too_many (totals bs) (omega (arith, halved bs, c.if-many-gt-MOST_LISTED.true))
 
-pub returns-in-Ok : goal.returns-in-Ok
-returns-in-Ok c =
-    let bs = c.args.part.now in
-    let e = ap (λ n. take n c.totals_of-totals.result) (halved bs) ∙ c.totals_of-totals.ensures.front in
-    search rules
-
-pub returns-in-Err : goal.returns-in-Err
-returns-in-Err c =
+pub returns : goal.returns
+returns c =
     let bs = c.args.part.now in
     let e = ap (λ n. take n c.totals_of-totals.result) (halved bs) ∙ c.totals_of-totals.ensures.front in
     search rules
