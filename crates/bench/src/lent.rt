@@ -25,9 +25,7 @@ impl Lent {
 
 // A number that changes with each byte and its place.
 pub fn checksum(sum: u64, bytes: &[u8]) -> u64 {
-    let mut sum = sum;
-    for byte in bytes {
-        sum = sum.wrapping_mul(31).wrapping_add(*byte as u64);
-    }
-    sum
+    bytes.iter().fold(sum, |sum, byte| {
+        sum.wrapping_mul(31).wrapping_add(u64::from(*byte))
+    })
 }

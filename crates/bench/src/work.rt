@@ -1,64 +1,28 @@
 // The calls that are timed, each with a number that stands for its answer.
 use crate::lent::{Lent, checksum};
+use crate::timing::Timing;
 use measures::loads::Loads;
 use measures::prices::{Highest, Lowest};
 use model::case::Case;
 use model::goal::band::Band;
 use model::refusal::Refusal;
 use plan::plan::Plan;
+use std::io;
 
-#[derive(Clone, Copy)]
-pub enum Work {
-    Settle,
-    RuleOut,
-    Number,
-    Lowest,
-    Highest,
-    List,
-}
-
-impl Work {
-    pub fn name(self) -> &'static str {
-        match self {
-            Work::Settle => "settle",
-            Work::RuleOut => "rule out",
-            Work::Number => "tally of loads",
-            Work::Lowest => "tally of lowest",
-            Work::Highest => "tally of highest",
-            Work::List => "list 10 loads",
-        }
-    }
-
-    // Whether the work is done with a plan that is settled already.
-    fn is_after_settle(self) -> bool {
-        !matches!(self, Work::Settle)
-    }
-}
-
-// A plan over the goal, settled where the work asks for that.
-pub fn plan_for(
-    work: Work,
-    case: &Case,
-    goal: Band,
-    lent: &mut Lent,
-) -> Result<Plan<Band>, Refusal> {
+// A plan over the goal, settled with the case.
+fn settled(case: &Case, goal: Band, lent: &mut Lent) -> Result<Plan<Band>, Refusal> {
     let mut plan = Plan::blank(goal);
-    if work.is_after_settle() {
-        plan.settle(case, &mut lent.forward, &mut lent.backward)?;
-    }
+    plan.settle(case, &mut lent.forward, &mut lent.backward)?;
     Ok(plan)
 }
 
 // A price as a number; 0 for none.
 fn price_in(price: Option<u32>) -> u64 {
-    match price {
-        Some(value) => value as u64 + 1,
-        None => 0,
-    }
+    price.map_or(0, |value| u64::from(value) + 1)
 }
 
 // The first ten loads, by first load and then next load from each answer, in one number.
-fn list_loads(plan: &Plan<Band>, lent: &mut Lent) -> Result<u64, Refusal> {
+fn list_loads(plan: &mut Plan<Band>, lent: &mut Lent) -> Result<u64, Refusal> {
     let mut load = [0u8; 32];
     plan.first_load(&mut load, &mut lent.forward, &mut lent.backward)?;
     let mut sum = checksum(0, &load);
@@ -69,19 +33,24 @@ fn list_loads(plan: &Plan<Band>, lent: &mut Lent) -> Result<u64, Refusal> {
     Ok(sum)
 }
 
-// Does the work with the plan.
-pub fn done(
-    work: Work,
-    plan: &mut Plan<Band>,
-    case: &Case,
-    lent: &mut Lent,
-) -> Result<u64, Refusal> {
-    match work {
-        Work::Settle => Ok(plan.settle(case, &mut lent.forward, &mut lent.backward)? as u64),
-        Work::RuleOut => Ok(plan.rule_out(1, 1, &mut lent.forward, &mut lent.backward)? as u64),
-        Work::Number => Ok(plan.tally::<Loads>(&mut lent.numbers)? as u64),
-        Work::Lowest => Ok(price_in(plan.tally::<Lowest>(&mut lent.prices)?)),
-        Work::Highest => Ok(price_in(plan.tally::<Highest>(&mut lent.prices)?)),
-        Work::List => list_loads(plan, lent),
-    }
+// A line for each call.
+pub fn print_calls(timing: &Timing, lent: &mut Lent, case: &Case, goal: Band) -> io::Result<()> {
+    let blank = |_lent: &mut Lent| Ok(Plan::blank(goal));
+    let ready = |lent: &mut Lent| settled(case, goal, lent);
+    timing.print("settle", lent, &blank, |plan, lent| {
+        Ok(u64::from(plan.settle(case, &mut lent.forward, &mut lent.backward)?))
+    })?;
+    timing.print("rule out", lent, &ready, |plan, lent| {
+        Ok(u64::from(plan.rule_out(1, 1, &mut lent.forward, &mut lent.backward)?))
+    })?;
+    timing.print("tally of loads", lent, &ready, |plan, lent| {
+        Ok(u64::from(plan.tally::<Loads>(&mut lent.numbers)?))
+    })?;
+    timing.print("tally of lowest", lent, &ready, |plan, lent| {
+        Ok(price_in(plan.tally::<Lowest>(&mut lent.prices)?))
+    })?;
+    timing.print("tally of highest", lent, &ready, |plan, lent| {
+        Ok(price_in(plan.tally::<Highest>(&mut lent.prices)?))
+    })?;
+    timing.print("list 10 loads", lent, &ready, list_loads)
 }

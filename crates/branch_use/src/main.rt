@@ -7,12 +7,13 @@ ghost use Rattle.meaning.specs.Life.{open_in};
 ghost use Rattle.plan.specs.Seen.{life};
 ghost use Rattle.branch_use.specs.Opened.{IsOpened};
 
-use model::case::Case;
 use model::goal::Goal;
 use model::goal::band::Band;
 use model::refusal::{HandedBack, Refusal};
 use plan::branch::Branch;
 use plan::plan::Plan;
+use samples::case_of;
+use samples::worked::FOUR_KINDS;
 use std::io;
 
 // Opens a branch, which is then the latest.
@@ -103,33 +104,46 @@ fn keep_older_first<G: Goal + Drop>(plan: &mut Plan<G>) -> Result<(u8, u32), Ref
     Ok((number, keep_latest(plan, back.given())))
 }
 
-// Four kinds, of which a load takes each at most once.
-fn four_kinds() -> Result<Case, Refusal> {
-    let mut case = Case::new();
-    case.add(2, 20, 0b11)?;
-    case.add(3, 25, 0b11)?;
-    case.add(4, 35, 0b11)?;
-    case.add(5, 40, 0b11)?;
-    Ok(case)
+// What came of the branches.
+struct Used {
+    // how many counts stand again after a withdraw
+    again: u32,
+    // how many branches are left open by two keeps
+    left: u32,
+    // the number of the refusal where the older of two is given back first
+    refused: u8,
+    // how many branches are open in the end
+    open: u32,
 }
 
-// Settles a plan and uses branches: how many counts stand again after a withdraw, how many branches are left open by the others, and the
-// number of a refusal.
-fn use_branches() -> Result<(u32, u32, u8, u32), Refusal> {
+// Settles a plan and uses branches.
+fn use_branches() -> Result<Used, Refusal> {
     let mut forward = [0u8; 65];
     let mut backward = [0u8; 65];
     let mut plan = Plan::blank(Band::new(10, 12)?);
-    plan.settle(&four_kinds()?, &mut forward, &mut backward)?;
+    plan.settle(&case_of(&FOUR_KINDS)?, &mut forward, &mut backward)?;
     let again = open_and_withdraw(&mut plan, &mut forward, &mut backward)?;
     let left = open_two(&mut plan)?;
-    let (number, open) = keep_older_first(&mut plan)?;
-    Ok((again, left, number, open))
+    let (refused, open) = keep_older_first(&mut plan)?;
+    Ok(Used {
+        again,
+        left,
+        refused,
+        open,
+    })
 }
 
 fn main(rt: HostRuntime) -> io::Result<()> {
     match use_branches() {
-        Ok((again, left, number, open)) => println!(rt;
-            "counts again {again}, branches left {left}, the older one refused {number}, then left {open}"
+        Ok(
+            Used {
+                again,
+                left,
+                refused,
+                open,
+            },
+        ) => println!(rt;
+            "counts again {again}, branches left {left}, the older one refused {refused}, then left {open}"
         ),
         Err(refusal) => {
             let number = refusal.number();

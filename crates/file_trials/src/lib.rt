@@ -2,9 +2,9 @@
 #![tactic(auto)]
 
 #[cfg(test)]
-mod drafts;
-#[cfg(test)]
 mod fault_trials;
+#[cfg(test)]
+mod files;
 #[cfg(test)]
 mod order_trials;
 #[cfg(test)]

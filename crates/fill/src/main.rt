@@ -11,16 +11,29 @@ use model::kind::Kind;
 use model::refusal::Refusal;
 use model::sets::{contains, how_many};
 use plan::plan::Plan;
+use samples::case_of;
+use samples::worked::FOUR_KINDS;
 use std::io;
 
-// Four kinds, each with count 0 or 1.
-fn worked_case() -> Result<Case, Refusal> {
-    let mut case = Case::new();
-    case.add(2, 20, 0b11)?;
-    case.add(3, 25, 0b11)?;
-    case.add(4, 35, 0b11)?;
-    case.add(5, 40, 0b11)?;
-    Ok(case)
+// Why the program ends before all is printed.
+#[derive(Debug, Drop)]
+enum Stop {
+    // A call is refused.
+    Refused(Refusal),
+    // A line cannot be printed.
+    Unprinted(io::Error),
+}
+
+impl From<Refusal> for Stop {
+    fn from(refusal: Refusal) -> Stop {
+        Stop::Refused(refusal)
+    }
+}
+
+impl From<io::Error> for Stop {
+    fn from(error: io::Error) -> Stop {
+        Stop::Unprinted(error)
+    }
 }
 
 // The counts of a set, each after a space, and the end of the line.
@@ -54,21 +67,16 @@ fn print_goal<G: Goal>(rt: &HostRuntime, name: &str, goal: &G) -> io::Result<()>
     println!(rt; "")
 }
 
-fn print_refusal(rt: &HostRuntime, refusal: Refusal) -> io::Result<()> {
-    let number = refusal.number();
-    println!(rt; "refused {number}")
-}
-
 // One line for each kind: the counts that stand.
-fn print_standing<G: Goal + Drop>(rt: &HostRuntime, plan: &Plan<G>) -> io::Result<()> {
-    for kind in 1..33u64 {
-        match plan.standing(kind) {
-            Ok(set) => {
-                print!(rt; "kind {kind}")?;
-                print_counts(rt, set)?;
-            }
-            Err(_) => return Ok(()),
-        }
+fn print_standing<G: Goal + Drop>(
+    rt: &HostRuntime,
+    plan: &Plan<G>,
+    many: usize,
+) -> Result<(), Stop> {
+    for kind in 1..=many as u64 {
+        let set = plan.standing(kind)?;
+        print!(rt; "kind {kind}")?;
+        print_counts(rt, set)?;
     }
     Ok(())
 }
@@ -82,76 +90,67 @@ fn print_price(rt: &HostRuntime, name: &str, price: Option<u32>) -> io::Result<(
 }
 
 // The number of loads, the lowest price and the highest.
-fn print_tallies<G: Goal + Drop>(rt: &HostRuntime, plan: &Plan<G>) -> io::Result<()> {
+fn print_tallies<G: Goal + Drop>(rt: &HostRuntime, plan: &Plan<G>) -> Result<(), Stop> {
     let mut numbers = [0u32; 4096];
-    match plan.tally::<Loads>(&mut numbers) {
-        Ok(many) => println!(rt; "loads {many}")?,
-        Err(refusal) => print_refusal(rt, refusal)?,
-    }
+    let loads = plan.tally::<Loads>(&mut numbers)?;
+    println!(rt; "loads {loads}")?;
     let mut prices: [Option<u32>; 4096] = [None; 4096];
-    match plan.tally::<Lowest>(&mut prices) {
-        Ok(price) => print_price(rt, "lowest", price)?,
-        Err(refusal) => print_refusal(rt, refusal)?,
-    }
-    match plan.tally::<Highest>(&mut prices) {
-        Ok(price) => print_price(rt, "highest", price),
-        Err(refusal) => print_refusal(rt, refusal),
-    }
+    let lowest = plan.tally::<Lowest>(&mut prices)?;
+    print_price(rt, "lowest", lowest)?;
+    let highest = plan.tally::<Highest>(&mut prices)?;
+    print_price(rt, "highest", highest)?;
+    Ok(())
 }
 
 // One line: the first load of the plan.
-fn print_first<G: Goal + Drop>(rt: &HostRuntime, plan: &Plan<G>, many: usize) -> io::Result<()> {
+fn print_first<G: Goal + Drop>(rt: &HostRuntime, plan: &Plan<G>, many: usize) -> Result<(), Stop> {
     let mut forward = [0u8; 4096];
     let mut backward = [0u8; 4096];
     let mut counts = [0u8; 32];
     let load = &mut counts[..many.min(32)];
-    match plan.first_load(load, &mut forward, &mut backward) {
-        Ok(()) => print!(rt; "first load")?,
-        Err(refusal) => return print_refusal(rt, refusal),
-    }
+    plan.first_load(load, &mut forward, &mut backward)?;
+    print!(rt; "first load")?;
     for count in load.iter() {
         print!(rt; " {count}")?;
     }
-    println!(rt; "")
+    println!(rt; "")?;
+    Ok(())
 }
 
 // What stands of the case under the goal, its first load, and its tallies.
-fn print_plan<G: Goal + Drop>(rt: &HostRuntime, case: &Case, goal: G) -> io::Result<()> {
+fn print_plan<G: Goal + Drop>(rt: &HostRuntime, case: &Case, goal: G) -> Result<(), Stop> {
     let mut plan = Plan::blank(goal);
     let mut forward = [0u8; 4096];
     let mut backward = [0u8; 4096];
-    match plan.settle(case, &mut forward, &mut backward) {
-        Ok(many) => println!(rt; "settled {many}")?,
-        Err(refusal) => return print_refusal(rt, refusal),
-    }
-    print_standing(rt, &plan)?;
-    print_first(rt, &plan, case.kinds().len())?;
+    let settled = plan.settle(case, &mut forward, &mut backward)?;
+    println!(rt; "settled {settled}")?;
+    let many = case.kinds().len();
+    print_standing(rt, &plan, many)?;
+    print_first(rt, &plan, many)?;
     print_tallies(rt, &plan)
 }
 
-// The plan of the case under the band, and under every second total of it.
-fn print_plans(rt: &HostRuntime, case: &Case, band: Band) -> io::Result<()> {
-    print_goal(rt, "band 10 12", &band)?;
-    print_plan(rt, case, band)?;
-    match Stride::over(band, 2, 0) {
-        Ok(stride) => {
-            print_goal(rt, "stride 2 0 over band 10 12", &stride)?;
-            print_plan(rt, case, stride)
-        }
-        Err(refused) => print_refusal(rt, refused.refusal()),
+// The kinds of the worked case, and its plans under a band and under every second total of it.
+fn print_worked(rt: &HostRuntime) -> Result<(), Stop> {
+    let case = case_of(&FOUR_KINDS)?;
+    for (number, kind) in (1..).zip(case.kinds()) {
+        print_kind(rt, number, kind)?;
     }
+    let band = Band::new(10, 12)?;
+    print_goal(rt, "band 10 12", &band)?;
+    print_plan(rt, &case, band)?;
+    let stride = Stride::over(band, 2, 0).map_err(|back| back.refusal())?;
+    print_goal(rt, "stride 2 0 over band 10 12", &stride)?;
+    print_plan(rt, &case, stride)
 }
 
 fn main(rt: HostRuntime) -> io::Result<()> {
-    let case = match worked_case() {
-        Ok(case) => case,
-        Err(refusal) => return print_refusal(&rt, refusal),
-    };
-    for (place, kind) in case.kinds().iter().enumerate() {
-        print_kind(&rt, place.saturating_add(1), kind)?;
-    }
-    match Band::new(10, 12) {
-        Ok(band) => print_plans(&rt, &case, band),
-        Err(refusal) => print_refusal(&rt, refusal),
+    match print_worked(&rt) {
+        Ok(()) => Ok(()),
+        Err(Stop::Refused(refusal)) => {
+            let number = refusal.number();
+            println!(rt; "refused {number}")
+        }
+        Err(Stop::Unprinted(error)) => Err(error),
     }
 }

@@ -2,7 +2,9 @@
 #![tactic(auto)]
 
 #[cfg(test)]
-mod cases;
+mod common;
+#[cfg(test)]
+mod history_trials;
 #[cfg(test)]
 mod load_trials;
 pub mod matrices;

@@ -1,53 +1,69 @@
-// A plain lister: it tries every list of allowed counts, one after the other, and knows nothing of marks.
+// A plain lister: it goes through every list of allowed counts, one after the other, and knows nothing of marks.
 use model::kind::Kind;
 use model::sets::contains;
 
 // The least count from `from` on that is in the set.
-fn count_from(set: u64, from: u64) -> Option<u8> {
-    for count in 0..64u8 {
-        if count as u64 >= from && contains(set, count as u64) {
-            return Some(count);
+fn least_from(set: u64, from: u8) -> Option<u8> {
+    (from..64).find(|count| contains(set, u64::from(*count)))
+}
+
+// The least count that is allowed.
+fn least_of(kind: &Kind) -> u8 {
+    least_from(kind.allowed(), 0).unwrap_or(0)
+}
+
+// The list after this one: the last kind that has a larger allowed count takes it, and those after it start again. None after the last list.
+fn list_after(kinds: &[Kind], list: [u8; 32]) -> Option<[u8; 32]> {
+    let mut after = list;
+    for (count, kind) in after.iter_mut().zip(kinds).rev() {
+        match least_from(kind.allowed(), count.saturating_add(1)) {
+            Some(larger) => {
+                *count = larger;
+                return Some(after);
+            }
+            None => *count = least_of(kind),
         }
     }
     None
 }
 
-// Sets the places from `from` on to their least allowed counts.
-fn reset(kinds: &[Kind], counts: &mut [u8], from: usize) {
-    for (place, kind) in kinds.iter().enumerate() {
-        if place >= from && place < counts.len() {
-            counts[place] = count_from(kind.allowed(), 0).unwrap_or(0);
-        }
-    }
-}
-
-// The first list: the least allowed count of every kind.
-pub(crate) fn first_list(kinds: &[Kind], counts: &mut [u8]) {
-    reset(kinds, counts, 0);
-}
-
-// Goes on to the list after this one, or says that this was the last.
-pub(crate) fn next_list(kinds: &[Kind], counts: &mut [u8]) -> bool {
-    for place in (0..kinds.len()).rev() {
-        if place < counts.len() {
-            let above = counts[place] as u64 + 1;
-            if let Some(count) = count_from(kinds[place].allowed(), above) {
-                counts[place] = count;
-                reset(kinds, counts, place + 1);
-                return true;
-            }
-        }
-    }
-    false
-}
-
 // What the counts total.
 pub(crate) fn total_of(kinds: &[Kind], counts: &[u8]) -> u64 {
-    let mut total = 0u64;
-    for (place, kind) in kinds.iter().enumerate() {
-        if place < counts.len() {
-            total = total.saturating_add((kind.size() as u64).saturating_mul(counts[place] as u64));
+    kinds
+        .iter()
+        .zip(counts)
+        .fold(0, |total: u64, (kind, count)| {
+            total.saturating_add(u64::from(kind.size()) * u64::from(*count))
+        })
+}
+
+// Yields the lists of allowed counts, a count for each kind, by the first kind in which they differ, the smaller count first. Past the kinds
+// each list has zeros.
+#[derive(Drop)]
+pub(crate) struct Lister<'a> {
+    kinds: &'a [Kind],
+    coming: Option<[u8; 32]>,
+}
+
+impl<'a> Lister<'a> {
+    pub(crate) fn new(kinds: &'a [Kind]) -> Lister<'a> {
+        let mut first = [0u8; 32];
+        for (count, kind) in first.iter_mut().zip(kinds) {
+            *count = least_of(kind);
+        }
+        Lister {
+            kinds,
+            coming: Some(first),
         }
     }
-    total
+}
+
+impl<'a> Iterator for Lister<'a> {
+    type Item = [u8; 32];
+
+    fn next(&mut self) -> Option<[u8; 32]> {
+        let list = self.coming?;
+        self.coming = list_after(self.kinds, list);
+        Some(list)
+    }
 }
