@@ -1,5 +1,13 @@
 // The numbers of open branches.
-ghost use Rattle.std.specs.Prelude.{◌≡◌, ◌≤◌, true, false};
+ghost use Rattle.std.specs.Prelude.{◌≡◌, ◌+◌, ◌<◌, ◌≤◌, true, false};
+
+// The number of the branch that opens next.
+pub fn number_after(opened: usize) -> u64
+    requires { opened < 8 }
+    ensures { result ≡ opened + 1 }
+{
+    opened as u64 + 1
+}
 
 // Whether the number is that of the latest open branch. No branch has number 0.
 pub fn is_latest(number: u64, opened: usize) -> bool

@@ -61,7 +61,8 @@ fn asked_table<'a, G: Goal>(goal: &G, many: usize, backward: &'a mut [u8]) -> Ta
 
 // The marks of the parts.
 pub fn mark_sets<G: Goal>(goal: &G, parts: Parts<'_>, forward: &mut [u8], backward: &mut [u8])
-    requires { short (problem (G.Goal.means goal.now) parts.kinds.now) (length forward.old) (length backward.old) ≡ false }
+    requires few { length parts.kinds.now ≤ 32 }
+    requires room { short (problem (G.Goal.means goal.now) parts.kinds.now) (length forward.old) (length backward.old) ≡ false }
     ensures forward { forward.new ≡ over (marks_ahead (G.Goal.means goal.now) (parts_of parts.entry)) forward.old }
     ensures backward { backward.new ≡ over (marks_back (G.Goal.means goal.now) (parts_of parts.entry)) backward.old }
 {
@@ -77,7 +78,8 @@ fn mark_used<G: Goal>(
     goal: &G,
     parts: Parts<'_>,
 ) -> Option<[u64; 32]>
-    requires { Prepared (G.Goal.means goal.now) parts ahead.old back.old }
+    requires prepared { Prepared (G.Goal.means goal.now) parts ahead.old back.old }
+    requires few { length parts.kinds.now ≤ 32 }
     ensures answer { Pruned (fits (G.Goal.means goal.now).admits (parts_of parts.entry)) (length parts.entry.kinds.now) result }
     ensures ahead { ahead.new.cells.now ≡ over (ahead_of (G.Goal.means goal.now) parts.entry.kinds.now (marks_ahead (G.Goal.means goal.now) (parts_of parts.entry)) result) ahead.old.cells.now }
     ensures back { back.new.cells.now ≡ over (back_of (G.Goal.means goal.now) parts.entry.kinds.now (marks_back (G.Goal.means goal.now) (parts_of parts.entry)) result) back.old.cells.now }
@@ -100,7 +102,8 @@ pub fn mark_first<G: Goal>(
     forward: &mut [u8],
     backward: &mut [u8],
 ) -> Option<[u64; 32]>
-    requires { short (problem (G.Goal.means goal.now) parts.kinds.now) (length forward.old) (length backward.old) ≡ false }
+    requires few { length parts.kinds.now ≤ 32 }
+    requires room { short (problem (G.Goal.means goal.now) parts.kinds.now) (length forward.old) (length backward.old) ≡ false }
     ensures answer { Pruned (fits (G.Goal.means goal.now).admits (parts_of parts.entry)) (length parts.entry.kinds.now) result }
     ensures forward { forward.new ≡ over (ahead_of (G.Goal.means goal.now) parts.entry.kinds.now (replicate (needed (problem (G.Goal.means goal.now) parts.entry.kinds.now)) 0) result) forward.old }
     ensures backward { backward.new ≡ over (back_of (G.Goal.means goal.now) parts.entry.kinds.now (replicate (needed (problem (G.Goal.means goal.now) parts.entry.kinds.now)) 0) result) backward.old }
@@ -124,6 +127,7 @@ pub fn mark_again<G: Goal>(
     forward: &mut [u8],
     backward: &mut [u8],
 ) -> Option<[u64; 32]>
+    requires few { length standing.kinds.now ≤ 32 }
     requires room { short (problem (G.Goal.means goal.now) standing.kinds.now) (length forward.old) (length backward.old) ≡ false }
     requires same { length tried.now ≡ length standing.kinds.now }
     ensures answer { Pruned (fits (G.Goal.means goal.now).admits (parts standing.entry.kinds.now tried.now)) (length standing.entry.kinds.now) result }
@@ -153,6 +157,7 @@ pub fn mark_without<G: Goal>(
     forward: &mut [u8],
     backward: &mut [u8],
 ) -> Option<[u64; 32]>
+    requires few { length standing.kinds.now ≤ 32 }
     requires room { short (problem (G.Goal.means goal.now) standing.kinds.now) (length forward.old) (length backward.old) ≡ false }
     requires place { at < length standing.kinds.now }
     requires small { count < 64 }

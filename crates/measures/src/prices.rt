@@ -1,6 +1,6 @@
 // The lowest and the highest price of a load: none where there is no load, else a price, cut off at 4,294,967,295.
 ghost use Rattle.std.specs.Prelude.{◌≡◌, ◌*◌, if◌then◌else◌, min, max, Some};
-ghost use Rattle.meaning.specs.Models.{added, price_by, taken};
+ghost use Rattle.meaning.specs.Models.{added, highest, lowest, price_by, taken};
 ghost use Rattle.meaning.proofs.Lawful.{picked_laws};
 
 use crate::Measure;
@@ -42,6 +42,20 @@ pub struct Extreme<const HIGHEST: bool>;
 pub type Lowest = Extreme<false>;
 
 pub type Highest = Extreme<true>;
+
+// The lower of two prices: what the lowest price makes of two loads.
+pub fn lower(a: Option<u32>, b: Option<u32>) -> Option<u32>
+    ensures { result ≡ lowest.join a b }
+{
+    Lowest::join(a, b)
+}
+
+// The higher of two prices: what the highest price makes of two loads.
+pub fn higher(a: Option<u32>, b: Option<u32>) -> Option<u32>
+    ensures { result ≡ highest.join a b }
+{
+    Highest::join(a, b)
+}
 
 impl<const HIGHEST: bool> Measure for Extreme<HIGHEST> {
     type Value = Option<u32>;

@@ -1,5 +1,5 @@
 // Kinds, each with one set of counts: those that are allowed, or those that stand.
-ghost use Rattle.std.specs.Prelude.{◌≡◌, ◌≤◌, length};
+ghost use Rattle.std.specs.Prelude.{◌≡◌, length};
 
 use crate::kind::Kind;
 
@@ -8,6 +8,5 @@ use crate::kind::Kind;
 pub struct Parts<'a> {
     pub kinds: &'a [Kind],
     pub sets: &'a [u64],
-    ghost few: { length kinds.now ≤ 32 },
     ghost same: { length sets.now ≡ length kinds.now },
 }

@@ -8,6 +8,7 @@ pub struct Marks<'a> {
     pub cells: &'a [u8],
     pub width: usize,
     pub parts: Parts<'a>,
+    ghost few: { length parts.kinds.now ≤ 32 },
     ghost wide: { width ≤ 4096 },
     ghost room: { (length parts.kinds.now + 1) * width ≤ length cells.now },
 }

@@ -23,11 +23,13 @@ fn join_count_back(after: &[u8], row: &mut [u8], kind: Kind, standing: u64, d: u
     requires small { d < 64 }
     ensures { (b : ℕ) → b < length row.old → slice_index row.new b ≡ (if has standing d then (if nat_lt (b + kind.size * d) (length row.old) then yes_no.join (slice_index row.old b) (yes_no.chain (slice_index after.now (b + kind.size * d)) (yes_no.worth kind.price d)) else slice_index row.old b) else slice_index row.old b) }
 {
-    let shift = blocks(kind, d);
-    let width = row.len();
-    if contains(standing, u64::from(d)) && shift < width {
-        let worth = YesNo::worth(kind.price(), d);
-        join_part::<YesNo>(&after[shift..], &mut row[..width - shift], worth);
+    if contains(standing, u64::from(d)) {
+        let shift = blocks(kind, d);
+        let width = row.len();
+        if shift < width {
+            let worth = YesNo::worth(kind.price(), d);
+            join_part::<YesNo>(&after[shift..], &mut row[..width - shift], worth);
+        }
     }
 }
 

@@ -11,8 +11,21 @@ use model::kind::Kind;
 use model::parts::Parts;
 use model::sets::contains;
 
-// One count of a kind, if it stands: the row before, moved on by size × count and chained with the count's worth, is joined to the row. What
-// passes the row's end is left out.
+// One count of a kind: the row before, moved on by size × count and chained with the count's worth, is joined to the row. What passes the
+// row's end is left out. It is not put into the loop over the counts, which then only asks the set where a count does not stand.
+#[inline(never)]
+fn join_moved<M: Measure>(before: &[M::Value], row: &mut [M::Value], kind: Kind, d: u8)
+    requires same { length before.now ≡ length row.old }
+    requires small { d < 64 }
+    ensures { (b : ℕ) → b < length row.old → slice_index_or row.new b M.Measure.means.zero ≡ (if nat_le (kind.size * d) b then M.Measure.means.join (slice_index_or row.old b M.Measure.means.zero) (M.Measure.means.chain (slice_index_or before.now (b - kind.size * d) M.Measure.means.zero) (M.Measure.means.worth kind.price d)) else slice_index_or row.old b M.Measure.means.zero) }
+{
+    let shift = blocks(kind, d);
+    if shift < row.len() {
+        join_part::<M>(before, &mut row[shift..], M::worth(kind.price(), d));
+    }
+}
+
+// The same, if the count stands. Most do not, so that is asked first, and alone.
 fn join_count<M: Measure>(
     before: &[M::Value],
     row: &mut [M::Value],
@@ -24,9 +37,8 @@ fn join_count<M: Measure>(
     requires small { d < 64 }
     ensures { (b : ℕ) → b < length row.old → slice_index_or row.new b M.Measure.means.zero ≡ (if has standing d then (if nat_le (kind.size * d) b then M.Measure.means.join (slice_index_or row.old b M.Measure.means.zero) (M.Measure.means.chain (slice_index_or before.now (b - kind.size * d) M.Measure.means.zero) (M.Measure.means.worth kind.price d)) else slice_index_or row.old b M.Measure.means.zero) else slice_index_or row.old b M.Measure.means.zero) }
 {
-    let shift = blocks(kind, d);
-    if contains(standing, u64::from(d)) && shift < row.len() {
-        join_part::<M>(before, &mut row[shift..], M::worth(kind.price(), d));
+    if contains(standing, u64::from(d)) {
+        join_moved::<M>(before, row, kind, d);
     }
 }
 

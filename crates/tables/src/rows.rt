@@ -20,7 +20,9 @@ pub(crate) fn zero_row<M: Measure>(row: &mut [M::Value])
 
 // The cells of one row, each chained with a worth, joined to those of another. This is the planner's innermost loop: no branch, no test of
 // a bound, so that it is compiled to vector code. (Tried: after a loop over `row.iter_mut().zip(from)` a proof knows the length of the row, and
-// nothing of the values in it.)
+// nothing of the values in it.) It is not put into its callers: there the loop had longer instructions, and took up to twice the time where
+// its last jump came to lie across a boundary of 32 bytes.
+#[inline(never)]
 pub(crate) fn join_part<M: Measure>(from: &[M::Value], row: &mut [M::Value], worth: M::Value)
     requires { length row.old ≤ length from.now }
     ensures { (b : ℕ) → b < length row.old → slice_index_or row.new b M.Measure.means.zero ≡ M.Measure.means.join (slice_index_or row.old b M.Measure.means.zero) (M.Measure.means.chain (slice_index_or from.now b M.Measure.means.zero) worth) }

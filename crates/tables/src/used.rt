@@ -97,7 +97,8 @@ pub fn used_sets<G: Goal>(
     goal: &G,
     parts: Parts<'_>,
 ) -> [u64; 32]
-    requires { Filled (G.Goal.means goal.now) parts ahead.now back.now }
+    requires filled { Filled (G.Goal.means goal.now) parts ahead.now back.now }
+    requires few { length parts.kinds.now ≤ 32 }
     ensures { take (length parts.entry.kinds.now) result ≡ support (length parts.entry.kinds.now) (fits (G.Goal.means goal.now).admits (parts_of parts.entry)) }
 {
     let marks = Marks {
@@ -152,7 +153,8 @@ pub fn prune<G: Goal>(
     goal: &G,
     parts: Parts<'_>,
 ) -> Option<[u64; 32]>
-    requires { Prepared (G.Goal.means goal.now) parts ahead.old back.old }
+    requires prepared { Prepared (G.Goal.means goal.now) parts ahead.old back.old }
+    requires few { length parts.kinds.now ≤ 32 }
     ensures answer { Pruned (fits (G.Goal.means goal.now).admits (parts_of parts.entry)) (length parts.entry.kinds.now) result }
     ensures marks { Marked (G.Goal.means goal.now) parts.entry ahead.old back.old ahead.new back.new }
 {

@@ -77,10 +77,16 @@ fn tables_too_short_for_a_rule_out(rt: HostRuntime) -> Result<(), Fail> {
     let answer = plan.rule_out(0, 99, &mut short, &mut backward);
     assert_eq!(rt; refusal_of(answer), Some(9));
     plan.settle(&case_of(&FOUR_KINDS)?, &mut forward, &mut backward)?;
-    let answer = plan.rule_out(0, 1, &mut short, &mut backward);
+    let mut ahead = [3u8; 65];
+    let mut back = [3u8; 65];
+    let answer = plan.rule_out(0, 1, &mut short, &mut back);
     assert_eq!(rt; refusal_of(answer), Some(7));
-    let answer = plan.rule_out(0, 1, &mut forward, &mut short);
+    let answer = plan.rule_out(0, 1, &mut ahead, &mut short);
     assert_eq!(rt; refusal_of(answer), Some(7));
+    // neither table is touched, nor the plan
+    assert!(rt; ahead == [3; 65] && back == [3; 65]);
+    assert!(rt; short == [5; 64]);
+    assert_eq!(rt; plan.standing(4)?, 0b10);
     Ok(())
 }
 

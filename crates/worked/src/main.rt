@@ -79,6 +79,9 @@ fn loads_shared<G: Goal + Drop>(
             (Err(Refusal::EndOfLoads), None) => return Ok(Some(loads)),
             _ => return Ok(None),
         }
+        // the plan fills the tables itself, whatever they hold
+        forward.fill(0);
+        backward.fill(0);
         answer = plan.next_load(load, &mut forward, &mut backward);
     }
     Ok(None)

@@ -45,7 +45,13 @@ impl<const N: usize> RisingTotals<N> {
     pub fn contains(&self, total: u64) -> bool
         ensures { result ≡ is_in (rising_in self.now) total }
     {
-        self.totals().contains(&total)
+        // They rise, so the first that is not below it decides.
+        for listed in self.totals() {
+            if *listed >= total {
+                return *listed == total;
+            }
+        }
+        false
     }
 
     // The last of them; none where there is none.

@@ -7,7 +7,7 @@ ghost use Rattle.plan.specs.Seen.{life};
 
 use crate::branch::Branch;
 use crate::plan::Plan;
-use marking::branches::is_latest;
+use marking::branches::{is_latest, number_after};
 use marking::counts::held_in_all;
 use marking::lent::mark_sets;
 use model::goal::Goal;
@@ -26,8 +26,9 @@ impl<G: Goal + Drop> Plan<G> {
         if self.noted.is_full() {
             return Err(Refusal::BranchesFull);
         }
+        let number = number_after(self.noted.len());
         self.noted.push(self.standing);
-        Ok(Branch::of(self.noted.len() as u64))
+        Ok(Branch::of(number))
     }
 
     // Closes the latest branch; what was ruled out stays so. Answers how many branches are still open.
@@ -68,13 +69,13 @@ impl<G: Goal + Drop> Plan<G> {
         ensures forward { forward.new ≡ remarked (forward_marks (life G.Goal.means self.new)) (answer_of result) forward.old }
         ensures backward { backward.new ≡ remarked (backward_marks (life G.Goal.means self.new)) (answer_of result) backward.old }
     {
-        // The sets are named apart: the checker does not follow parts that a `&mut self` lends where the plan changes later.
+        // Only the number of kinds is kept: the checker does not follow parts that a `&mut self` lends where the plan changes later.
         let parts = self.parts_for(forward, backward)?;
-        let Parts { sets, .. } = parts;
-        let before = held_in_all(sets);
+        let many = parts.kinds.len();
         if !is_latest(number, self.noted.len()) {
             return Err(Refusal::NotLatest);
         }
+        let before = held_in_all(&self.standing[..many]);
         let Some(row) = self.noted.pop() else {
             unreachable!()
         };

@@ -38,7 +38,7 @@ returns-clause-backward g c =
     let ks = ps.kinds.now in
     let next = c.in-Some.next in
     let full : length next ≡ 32 = search rules in
-    let long : length (take (length ks) next) ≡ length ks = long_take (length ks) next (omega (arith, ps.few)) in
+    let long : length (take (length ks) next) ≡ length ks = long_take (length ks) next (omega (arith, c.requires.few)) in
     let made : c.mark_used.new.back.cells.now ≡ over (marks_back t (parts ks (take (length ks) next))) c.args.backward.now =
     c.in-Some.ensures.back ∙ over_same _ _ _ ((length ks + 1) * (t.top + 1)) (back_long t.admits ks (take (length ks) next) (t.top + 1) long) c.asked_table-back.ensures.past in
     search rules

@@ -8,7 +8,7 @@ use Rattle.marking.proofs.lent.mark_used.Goals as goal
 
 pub refill_marks-requires-clause-prepared : goal.refill_marks-requires-clause-prepared
 refill_marks-requires-clause-prepared g c =
-    still_prepared (g.G.Goal.means c.args.goal.now) (g.met.G.Goal.bounded c.args.goal.now) c.args.parts _ c.args.parts.sets.now _ _ _ _ c.requires refl c.args.parts.same
+    still_prepared (g.G.Goal.means c.args.goal.now) (g.met.G.Goal.bounded c.args.goal.now) c.args.parts _ c.args.parts.sets.now _ _ _ _ c.requires.prepared refl c.args.parts.same
     c.prune.ensures.marks.ahead_rows c.prune.ensures.marks.back_rows c.prune.ensures.marks.back
 
 pub returns-clause-ahead : goal.returns-clause-ahead
@@ -18,9 +18,9 @@ returns-clause-ahead g c =
     let ks = ps.kinds.now in
     let next = c.in_ok-next.next in
     let full : length next ≡ 32 = search rules in
-    let long : length (take (length ks) next) ≡ length ks = long_take (length ks) next (omega (arith, ps.few)) in
+    let long : length (take (length ks) next) ≡ length ks = long_take (length ks) next (omega (arith, c.requires.few)) in
     marked_twice (λ ss w. tallies yes_no (parts ks ss) w) ks (ahead_long yes_no ks) (t.top + 1) ps.sets.now (take (length ks) next) c.args.ahead.now.width c.prune.new.ahead.width
-    _ _ _ ps.same long c.requires.ready.wide (c.prune.ensures.marks.ahead_rows.width ∙ c.requires.ready.wide) c.prune.ensures.marks.ahead c.refill_marks.ensures.ahead
+    _ _ _ ps.same long c.requires.prepared.ready.wide (c.prune.ensures.marks.ahead_rows.width ∙ c.requires.prepared.ready.wide) c.prune.ensures.marks.ahead c.refill_marks.ensures.ahead
 
 pub returns-clause-back : goal.returns-clause-back
 returns-clause-back g c =
@@ -29,6 +29,6 @@ returns-clause-back g c =
     let ks = ps.kinds.now in
     let next = c.in_ok-next.next in
     let full : length next ≡ 32 = search rules in
-    let long : length (take (length ks) next) ≡ length ks = long_take (length ks) next (omega (arith, ps.few)) in
+    let long : length (take (length ks) next) ≡ length ks = long_take (length ks) next (omega (arith, c.requires.few)) in
     marked_twice (λ ss w. tallies_back yes_no t.admits (parts ks ss) w) ks (back_long t.admits ks) (t.top + 1) ps.sets.now (take (length ks) next) c.args.ahead.now.width c.prune.new.ahead.width
-    _ _ _ ps.same long c.requires.ready.wide (c.prune.ensures.marks.ahead_rows.width ∙ c.requires.ready.wide) c.prune.ensures.marks.back c.refill_marks.ensures.back
+    _ _ _ ps.same long c.requires.prepared.ready.wide (c.prune.ensures.marks.ahead_rows.width ∙ c.requires.prepared.ready.wide) c.prune.ensures.marks.back c.refill_marks.ensures.back

@@ -20,5 +20,5 @@ returns-clause-smaller g c =
     let ks = ps.kinds.now in
     let trial = c.strike_count-trial.result in
     let full : length trial ≡ 32 = search rules in
-    let long : length (take (length ps.sets.now) trial) ≡ length ks = long_take (length ps.sets.now) trial (omega (arith, ps.few, ps.same)) ∙ ps.same in
+    let long : length (take (length ps.sets.now) trial) ≡ length ks = long_take (length ps.sets.now) trial (omega (arith, c.requires.few, ps.same)) ∙ ps.same in
     smaller t ks ps.sets.now (take (length ps.sets.now) trial) c.args.at c.args.count c.mark_again.result ps.same long c.requires.place c.strike_count-trial.ensures c.mark_again.ensures.answer

@@ -13,5 +13,5 @@ returns g c =
     let n = length c.args.parts.kinds.now in
     let xs = c.loop-i.set-items in
     let room : List ℕ = replicate 32 0 in
-    let long : length xs ≡ n = omega (arith, c.loop-i.auto.set-items, length-take n room, c.args.parts.few) in
+    let long : length xs ≡ n = omega (arith, c.loop-i.auto.set-items, length-take n room, c.requires.few) in
     take_at xs (drop n room) n long ∙ fill_by_all U xs n 0 long (λ k h. c.loop-i.invariant k (omega arith))

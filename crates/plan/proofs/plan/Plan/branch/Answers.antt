@@ -1,5 +1,6 @@
-use Rattle.std.proofs.Common.{◌≡◌, ℕ, ◌<◌, List, length, sym, ap, ◌∙◌, subst, arith}
+use Rattle.std.proofs.Common.{◌≡◌, ℕ, ◌+◌, ◌<◌, List, [], ◌∷◌, length, sym, ap, ◌∙◌, subst, arith}
 use Rattle.std.proofs.lemmas.Bool.{eqb-false, eqb-true}
+use Rattle.std.proofs.lemmas.List.{length-append}
 use Rattle.fixed_list.specs.FixedLists.{in_use}
 use Rattle.model.specs.Answers.{Answer, accepted, refused}
 use Rattle.meaning.specs.Life.{Called}
@@ -41,4 +42,6 @@ returns-clause-does g c =
     let few : length rows < 8 = omega (arith, not, c.is_full.ensures.few) in
     let After : List (List ℕ) → Type 0 = λ more. Called (life_of t n kinds p.standing rows (length rows)) branch (life_of t n kinds p.standing more (length more)) (accepted (length more)) in
     let Said : Answer → Type 0 = λ a. Called (life_of t n kinds p.standing rows (length rows)) branch (life_of t n kinds p.standing (in_use c.push.new.self) (length (in_use c.push.new.self))) a in
-    subst Said (ap accepted (sym (c.of.ensures ∙ c.len.ensures.many))) (subst After (sym c.push.ensures) (branch_goes t n kinds p.standing some rows few))
+    let long : length (in_use c.push.new.self) ≡ length rows + 1 = ap length c.push.ensures ∙ length-append rows (p.standing ∷ []) in
+    let next : length (in_use c.push.new.self) ≡ c.of.result.number = omega (arith, c.of.ensures, c.number_after-number.ensures, c.len.ensures.many, long) in
+    subst Said (ap accepted next) (subst After (sym c.push.ensures) (branch_goes t n kinds p.standing some rows few))

@@ -31,10 +31,10 @@ returns-in_err-parts g c =
     let Ahead : Result ℕ Refusal → Type 0 = λ r. c.args.forward.now ≡ marked (forward_marks l) (answer_of r) c.args.forward.now in
     let Back : Result ℕ Refusal → Type 0 = λ r. c.args.backward.now ≡ marked (backward_marks l) (answer_of r) c.args.backward.now in
     record {
-      does = subst Closed (sym is) (rule_closed l c.args.kind c.args.count f b (number_of e) c.in_err-parts.ensures);
+      does = subst Closed (sym is) (rule_closed l c.args.kind c.args.count f b (number_of e) c.in_err-parts.ensures.parts);
       goal = refl;
-      forward = subst Ahead (sym is) (kept_cells l f b (number_of e) (forward_marks l) c.args.forward.now c.in_err-parts.ensures);
-      backward = subst Back (sym is) (kept_cells l f b (number_of e) (backward_marks l) c.args.backward.now c.in_err-parts.ensures);
+      forward = subst Ahead (sym is) (kept_cells l f b (number_of e) (forward_marks l) c.args.forward.now c.in_err-parts.ensures.parts);
+      backward = subst Back (sym is) (kept_cells l f b (number_of e) (backward_marks l) c.args.backward.now c.in_err-parts.ensures.parts);
     }
 
 pub returns-then-not-in_range-clause-does : goal.returns-then-not-in_range-clause-does
@@ -47,7 +47,7 @@ returns-then-not-in_range-clause-does g c =
     let f = length c.args.forward.now in
     let b = length c.args.backward.now in
     let x = problem t ps.kinds.now in
-    let r = readied g.G.Goal.means p ps f b c.in_ok-parts.ensures in
+    let r = readied g.G.Goal.means p ps f b c.in_ok-parts.ensures.parts in
     let ranged : in_range x i d ≡ false = sym c.in_range.ensures ∙ c.if-not-in_range.true in
     called_same t p.case.kinds.many p.case.kinds.items p.standing ps.kinds.now ps.sets.now (in_use p.noted) (length (in_use p.noted)) r.begun (rule_out i d f b) 10
     (passed _ (short x f b) 7 _ r.room ∙ refused_is _ (not (in_range x i d)) 10 _ (ap not ranged))
@@ -62,7 +62,7 @@ returns-then-not-contains-clause-does g c =
     let f = length c.args.forward.now in
     let b = length c.args.backward.now in
     let x = problem t ps.kinds.now in
-    let r = readied g.G.Goal.means p ps f b c.in_ok-parts.ensures in
+    let r = readied g.G.Goal.means p ps f b c.in_ok-parts.ensures.parts in
     let ranged : in_range x i d ≡ true = sym c.in_range.ensures ∙ c.if-not-in_range.false in
     let gone : has (get_or ps.sets.now (i - 1) 0) d ≡ false = sym c.contains.ensures ∙ c.if-not-contains.true in
     called_same t p.case.kinds.many p.case.kinds.items p.standing ps.kinds.now ps.sets.now (in_use p.noted) (length (in_use p.noted)) r.begun (rule_out i d f b) 11
@@ -78,7 +78,7 @@ returns-in_default-clause-does g c =
     let f = length c.args.forward.now in
     let b = length c.args.backward.now in
     let x = problem t ps.kinds.now in
-    let r = readied g.G.Goal.means p ps f b c.in_ok-parts.ensures in
+    let r = readied g.G.Goal.means p ps f b c.in_ok-parts.ensures.parts in
     let ranged : in_range x i d ≡ true = sym c.in_range.ensures ∙ c.if-not-in_range.false in
     let there : has (get_or ps.sets.now (i - 1) 0) d ≡ true = sym c.contains.ensures ∙ c.if-not-contains.false in
     called_same t p.case.kinds.many p.case.kinds.items p.standing ps.kinds.now ps.sets.now (in_use p.noted) (length (in_use p.noted)) r.begun (rule_out i d f b) 8
@@ -102,7 +102,7 @@ invariant_of-self g c =
     let n = p.case.kinds.many in
     let ps = c.in_ok-parts.parts in
     let next = c.in-Some.next in
-    let o = (readied g.G.Goal.means p ps (length c.args.forward.now) (length c.args.backward.now) c.in_ok-parts.ensures).begun in
+    let o = (readied g.G.Goal.means p ps (length c.args.forward.now) (length c.args.backward.now) c.in_ok-parts.ensures.parts).begun in
     let two = less n (length ps.kinds.now) next p.standing ps.sets.now o.long o.sets_are c.in-Some.ensures.smaller in
     let long : length next ≡ 32 = search rules in
     record { full = long; inside = inside_less n p.standing next (in_use p.noted) (length (in_use p.noted)) two.0 two.1 p.inside }
@@ -113,7 +113,7 @@ overflow_sub-result g c =
     let n = p.case.kinds.many in
     let ps = c.in_ok-parts.parts in
     let next = c.in-Some.next in
-    let o = (readied g.G.Goal.means p ps (length c.args.forward.now) (length c.args.backward.now) c.in_ok-parts.ensures).begun in
+    let o = (readied g.G.Goal.means p ps (length c.args.forward.now) (length c.args.backward.now) c.in_ok-parts.ensures.parts).begun in
     let two = less n (length ps.kinds.now) next p.standing ps.sets.now o.long o.sets_are c.in-Some.ensures.smaller in
     let h : held_in_all (take n next) ≤ held_in_all (take n p.standing) = held_take_less n next p.standing two.0 in
     let before : c.held_in_all-before.result ≡ held_in_all (take n p.standing) = c.held_in_all-before.ensures ∙ ap held_in_all o.sets_are in
@@ -133,7 +133,7 @@ returns-clause-does g c =
     let b = length c.args.backward.now in
     let x = problem t ks in
     let next = c.in-Some.next in
-    let r = readied g.G.Goal.means p ps f b c.in_ok-parts.ensures in
+    let r = readied g.G.Goal.means p ps f b c.in_ok-parts.ensures.parts in
     let ranged : in_range x i d ≡ true = sym c.in_range.ensures ∙ c.if-not-in_range.false in
     let there : has (get_or ss (i - 1) 0) d ≡ true = sym c.contains.ensures ∙ c.if-not-contains.false in
     let rest = without (i - 1) d (fits t.admits (parts ks ss)) in

@@ -19,7 +19,7 @@ returns-clause-tells g c =
     let n = p.case.kinds.many in
     let kinds = p.case.kinds.items in
     let ps = c.in_ok-parts.parts in
-    let o = opened g.G.Goal.means p ps c.in_ok-parts.ensures in
+    let o = opened g.G.Goal.means p ps c.in_ok-parts.ensures.parts in
     let seen = parts_are n kinds p.standing ps.kinds.now ps.sets.now o in
     let ends : c.tally_loads.new.table.cells.now ≡ over (tallies m (parts (take n kinds) (take n p.standing)) (t.top + 1)) c.args.values.now =
     ends_once (tallies m (parts ps.kinds.now ps.sets.now)) c.new-table.result.width (t.top + 1) _ _ _ c.tally_loads.ensures.cells (c.new-table.ensures.width ∙ c.width_of.ensures.value) c.new-table.ensures.cells

@@ -25,7 +25,7 @@ returns-in_err-parts-clause-does g c =
     let e = c.in_err-parts.field-0.0 in
     let is : c.from_residual.result ≡ Err e = search rules in
     let Closed : Result ℕ Refusal → Type 0 = λ r. Called l (withdraw c.args.number f b) l (answer_of r) in
-    subst Closed (sym is) (withdraw_closed l c.args.number f b (number_of e) c.in_err-parts.ensures)
+    subst Closed (sym is) (withdraw_closed l c.args.number f b (number_of e) c.in_err-parts.ensures.parts)
 
 pub returns-then-not-is_latest-clause-does : goal.returns-then-not-is_latest-clause-does
 returns-then-not-is_latest-clause-does g c =
@@ -37,7 +37,7 @@ returns-then-not-is_latest-clause-does g c =
     let k = length rows in
     let f = length c.args.forward.now in
     let b = length c.args.backward.now in
-    let r = readied g.G.Goal.means p c.in_ok-parts.parts f b c.in_ok-parts.ensures in
+    let r = readied g.G.Goal.means p c.in_ok-parts.parts f b c.in_ok-parts.ensures.parts in
     called_live t kinds n p.standing p.standing rows rows k k (withdraw c.args.number f b) (refused 13) r.begun.some
     (Branching.withdraw_other (problem_of t n kinds) n p.standing rows f b k c.args.number r.room_of (λ e. c.is_latest.ensures.no c.if-not-is_latest.true (e ∙ sym c.len.ensures.many)))
 
@@ -58,9 +58,9 @@ overflow_sub-result g c =
     let p = c.args.self.now in
     let n = p.case.kinds.many in
     let row = c.in-Some.row in
-    let r = readied g.G.Goal.means p c.in_ok-parts.parts (length c.args.forward.now) (length c.args.backward.now) c.in_ok-parts.ensures in
+    let r = readied g.G.Goal.means p c.in_ok-parts.parts (length c.args.forward.now) (length c.args.backward.now) c.in_ok-parts.ensures.parts in
     let h : held_in_all (take n p.standing) ≤ held_in_all (take n row) = no_fewer n p.standing row (in_use c.pop.new.self) (subst (Within n p.standing) c.in-Some.ensures p.inside) in
-    let before : c.held_in_all-before.result ≡ held_in_all (take n p.standing) = c.held_in_all-before.ensures ∙ ap held_in_all r.begun.sets_are in
+    let before : c.held_in_all-before.result ≡ held_in_all (take n p.standing) = c.held_in_all-before.ensures ∙ ap (λ m. held_in_all (take m p.standing)) r.begun.long in
     let later : c.held_in_all-after.result ≡ held_in_all (take n row) = c.held_in_all-after.ensures ∙ ap (λ m. held_in_all (take m row)) (kinds_long p c.kinds-kinds.ensures) in
     omega (arith, h, before, later)
 
@@ -73,9 +73,9 @@ returns-clause-does g c =
     let f = length c.args.forward.now in
     let b = length c.args.backward.now in
     let row = c.in-Some.row in
-    let r = readied g.G.Goal.means p c.in_ok-parts.parts f b c.in_ok-parts.ensures in
+    let r = readied g.G.Goal.means p c.in_ok-parts.parts f b c.in_ok-parts.ensures.parts in
     let at = c.is_latest.ensures.yes c.if-not-is_latest.false in
-    let before : c.held_in_all-before.result ≡ held_in_all (take n p.standing) = c.held_in_all-before.ensures ∙ ap held_in_all r.begun.sets_are in
+    let before : c.held_in_all-before.result ≡ held_in_all (take n p.standing) = c.held_in_all-before.ensures ∙ ap (λ m. held_in_all (take m p.standing)) r.begun.long in
     let later : c.held_in_all-after.result ≡ held_in_all (take n row) = c.held_in_all-after.ensures ∙ ap (λ m. held_in_all (take m row)) (kinds_long p c.kinds-kinds.ensures) in
     withdraw_goes t n kinds p.standing r.begun.some (in_use p.noted) (in_use c.pop.new.self) row c.args.number f b c.held_in_all-before.result c.held_in_all-after.result
     c.in-Some.ensures at.0 (at.1 ∙ c.len.ensures.many) r.room_of before later
