@@ -12,8 +12,7 @@ use model::parts::Parts;
 use model::sets::contains;
 
 // One count of a kind: the row before, moved on by size × count and chained with the count's worth, is joined to the row. What passes the
-// row's end is left out. It is not put into the loop over the counts, which then only asks the set where a count does not stand.
-#[inline(never)]
+// row's end is left out.
 fn join_moved<M: Measure>(before: &[M::Value], row: &mut [M::Value], kind: Kind, d: u8)
     requires same { length before.now ≡ length row.old }
     requires small { d < 64 }
